@@ -1,0 +1,123 @@
+-- 01, 'Examples': P1 to P12, through the entries' definitions.
+use mathlib.Core.Path.{_≡_}
+use mathlib.Core.Bool.{Bool, true, false}
+use mathlib.Core.List.{List, [], _∷_, _++_}
+use Prim.Native.Nat.{ℕ, zero, suc, _+_, _*_}
+use lib.ListN.{length, replicate}
+use Rattle.rules.specs.declared.Network.{Network}
+use Rattle.rules.specs.declared.Failure.{Failure}
+use Rattle.rules.specs.declared.Failure.the-variants.{Nothing, Link, Node}
+use Rattle.rules.specs.declared.Verdict.{Verdict}
+use Rattle.rules.specs.declared.Verdict.the-variants.{Accepted, Refused}
+use Rattle.rules.specs.Limits.{largest, fileLength, tablesLength, trailRoom}
+use Rattle.rules.specs.File.{Set, encode, setOf}
+use Rattle.rules.specs.Building.{filled}
+use Rattle.rules.specs.Forwarding.{trail}
+use Rattle.rules.specs.Answers.{Told, tell}
+use Rattle.rules.specs.Entries.{Entry, buildEntry, checkEntry, runEntry, builtFrom, runOf, BuildInput, RunInput, RunLent}
+
+-- a graph alone: its header's counts, its links' ends and weights
+abbrev pub graph : ℕ → ℕ → ℕ → List ℕ → List ℕ → List ℕ → Set
+graph n m wmax a b weights = record { net = record { n = n; m = m; k = 0; wmax = wmax }; a = a; b = b; weights = weights; homes = []; rows = [] }
+
+-- "The triangle is the report's": links 0-1 weight 1, 0-2 weight 3, 1-2 weight 1, wmax 3
+unfoldable pub triangle : Set
+triangle = graph 3 3 3 (0 ∷ 0 ∷ 1 ∷ []) (1 ∷ 2 ∷ 2 ∷ []) (1 ∷ 3 ∷ 1 ∷ [])
+
+-- "Ring: 0-1, 0-3, 1-2, 2-3."
+unfoldable pub ring : Set
+ring = graph 4 4 1 (0 ∷ 0 ∷ 1 ∷ 2 ∷ []) (1 ∷ 3 ∷ 2 ∷ 3 ∷ []) (1 ∷ 1 ∷ 1 ∷ 1 ∷ [])
+
+-- "Full four: all six links among 0 to 3."
+unfoldable pub fullFour : Set
+fullFour = graph 4 6 1 (0 ∷ 0 ∷ 0 ∷ 1 ∷ 1 ∷ 2 ∷ []) (1 ∷ 2 ∷ 3 ∷ 2 ∷ 3 ∷ 3 ∷ []) (1 ∷ 1 ∷ 1 ∷ 1 ∷ 1 ∷ 1 ∷ [])
+
+-- "Rows are as the builder would fill them for the homes given"
+unfoldable pub triangleSet : Set
+triangleSet = filled triangle (1 ∷ 2 ∷ 3 ∷ [])
+
+unfoldable pub ringSet : Set
+ringSet = filled ring (1 ∷ 2 ∷ 3 ∷ 4 ∷ [])
+
+unfoldable pub fullFourSet : Set
+fullFourSet = filled fullFour (1 ∷ 1 ∷ 2 ∷ 2 ∷ [])
+
+-- ---- a row of the table: number and place, then the values of an accepted call and what it wrote
+
+unfoldable pub rowOf : Told → List ℕ → List ℕ
+rowOf t more = t .number ∷ t .place ∷ (t .values ++ more)
+
+-- what an accepted call wrote, and nothing for a refused one
+unfoldable pub wrote : Verdict → List ℕ → List ℕ
+wrote Accepted l = l
+wrote (Refused number place) l = []
+
+-- the builder, into room for the longest file: number, place, length; then k and the homes of the set built
+unfoldable pub builtRow : Set → ℕ → List ℕ
+builtRow G cap =
+    let i : BuildInput = record { file = encode G; cap = cap } in
+    let room : List ℕ = replicate 100 0 in
+    let v : Verdict = buildEntry .verdict i room in
+    rowOf (tell v (buildEntry .gives i room)) (wrote v (builtFrom i .net .k ∷ builtFrom i .homes))
+
+-- the check: number, place
+unfoldable pub checkedRow : Set → List ℕ
+checkedRow S = rowOf (tell (checkEntry .verdict (encode S) tt) []) []
+
+-- the run: number, place; 1 delivered or 2 dropped, hops, topology, the kind's letter (45: none); then the trail
+unfoldable pub ranRow : Set → ℕ → ℕ → Failure → List ℕ
+ranRow S source destination failure =
+    let i : RunInput = record { file = encode S; source = source; destination = destination; failure = failure } in
+    let room : RunLent = record { tables = replicate (tablesLength (S .net)) 0; trail = replicate (trailRoom (S .net)) 0 } in
+    let v : Verdict = runEntry .verdict i room in
+    rowOf (tell v (runEntry .gives i room)) (wrote v (trail source (runOf i)))
+
+-- ---- the table
+
+unfoldable pub computed : List (List ℕ)
+computed =
+    builtRow triangle 3
+    ∷ builtRow ring 4
+    ∷ builtRow ring 3
+    ∷ builtRow fullFour 4
+    ∷ ranRow triangleSet 0 2 (Link 2)
+    ∷ ranRow ringSet 0 2 (Link 2)
+    ∷ ranRow fullFourSet 0 2 (Link 1)
+    ∷ ranRow fullFourSet 0 1 (Link 0)
+    ∷ ranRow fullFourSet 0 2 (Node 2)
+    ∷ checkedRow (filled ring (1 ∷ 2 ∷ 1 ∷ 3 ∷ []))
+    ∷ checkedRow (filled fullFour (1 ∷ 1 ∷ 1 ∷ 2 ∷ []))
+    ∷ ranRow triangleSet 0 0 Nothing
+    ∷ []
+
+unfoldable pub expected : List (List ℕ)
+expected =
+    -- P1: triangle, cap 3: homes 1, 2, 3 (a 65-byte file)
+    (0 ∷ 0 ∷ 65 ∷ 3 ∷ 1 ∷ 2 ∷ 3 ∷ [])
+    -- P2: ring, cap 4: homes 1, 2, 3, 4
+    ∷ (0 ∷ 0 ∷ 92 ∷ 4 ∷ 1 ∷ 2 ∷ 3 ∷ 4 ∷ [])
+    -- P3: ring, cap 3: refusal 10
+    ∷ (10 ∷ 0 ∷ [])
+    -- P4: full four, cap 4: homes 1, 1, 2, 2, so k = 2
+    ∷ (0 ∷ 0 ∷ 90 ∷ 2 ∷ 1 ∷ 1 ∷ 2 ∷ 2 ∷ [])
+    -- P5: triangle, 0 to 2, link 1-2 down: delivered in three hops, trail 0, 1, 0, 2 (topology 2, kind D)
+    ∷ (0 ∷ 0 ∷ 1 ∷ 3 ∷ 2 ∷ 68 ∷ 0 ∷ 1 ∷ 0 ∷ 2 ∷ [])
+    -- P6: ring, 0 to 2, link 1-2 down: trail 0, 1, 0, 3, 2, topology 2 (kind D)
+    ∷ (0 ∷ 0 ∷ 1 ∷ 4 ∷ 2 ∷ 68 ∷ 0 ∷ 1 ∷ 0 ∷ 3 ∷ 2 ∷ [])
+    -- P7: full four, 0 to 2, link 0-2 down: trail 0, 3, 2, topology 1 (kind D)
+    ∷ (0 ∷ 0 ∷ 1 ∷ 2 ∷ 1 ∷ 68 ∷ 0 ∷ 3 ∷ 2 ∷ [])
+    -- P8: full four, 0 to 1, link 0-1 down: trail 0, 2, 1, topology 1, kind S
+    ∷ (0 ∷ 0 ∷ 1 ∷ 2 ∷ 1 ∷ 83 ∷ 0 ∷ 2 ∷ 1 ∷ [])
+    -- P9: full four, 0 to 2, node 2 down: dropped after trail 0, 3 (topology 1, kind D)
+    ∷ (0 ∷ 0 ∷ 2 ∷ 1 ∷ 1 ∷ 68 ∷ 0 ∷ 3 ∷ [])
+    -- P10: ring, homes 1, 2, 1, 3: refusal 7 at topology 1
+    ∷ (7 ∷ 1 ∷ [])
+    -- P11: full four, homes 1, 1, 1, 2: refusal 8 at topology 1
+    ∷ (8 ∷ 1 ∷ [])
+    -- P12: triangle, 0 to 0, nothing down: delivered, trail 0, topology 0, no hops
+    ∷ (0 ∷ 0 ∷ 1 ∷ 0 ∷ 0 ∷ 45 ∷ 0 ∷ [])
+    ∷ []
+
+-- the twelve examples hold of the definitions
+abbrev pub ExamplesHold : Type 0
+ExamplesHold = computed ≡ expected

@@ -1,0 +1,182 @@
+-- 01, 'Forwarding'.
+use mathlib.Core.Bool.{Bool, true, false, not, _&&_, _||_}
+use mathlib.Core.List.{List, [], _∷_}
+use Prim.Native.Nat.{ℕ, zero, suc, _+_, _*_}
+use lib.Dec.{eqb}
+use lib.ListN.{length, getD}
+use Rattle.rules.specs.declared.Network.{Network}
+use Rattle.rules.specs.declared.Packet.{Packet}
+use Rattle.rules.specs.declared.Failure.{Failure}
+use Rattle.rules.specs.declared.Failure.the-variants.{Nothing, Link, Node}
+use Rattle.rules.specs.declared.Kind.{Kind}
+use Rattle.rules.specs.declared.Kind.the-variants.{Unchanged, T, S, D}
+use Rattle.rules.specs.declared.Step.{Step}
+use Rattle.rules.specs.declared.Step.the-variants.{Delivered, Moved, Dropped}
+use Rattle.rules.specs.declared.Outcome.{Outcome}
+use Rattle.rules.specs.declared.Outcome.the-variants as ended
+use Rattle.rules.specs.Basics.{if_then_else_, need}
+use Rattle.rules.specs.File.{Set}
+use Rattle.rules.specs.Isolation.{home, neighbours, linkBetween}
+use Rattle.rules.specs.Distance.{nextHop, alternate}
+
+-- ---- what is down
+
+-- nothing; one link by its number; or nodes, each with all its links. One failed node is the case of a single node; more than one that share a home
+-- are as harmless, and the demands say so
+pub data Fault : Type 0 where
+  nothing : Fault
+  link : ℕ → Fault
+  nodes : (ℕ → Bool) → Fault
+
+-- "A failure is none, one link by its number in the file, or one node with all its links."
+unfoldable pub faultOf : Failure → Fault
+faultOf Nothing = nothing
+faultOf (Link l) = link l
+faultOf (Node v) = nodes (eqb v)
+
+-- node v is down
+unfoldable pub failed : Fault → ℕ → Bool
+failed nothing v = false
+failed (link l) v = false
+failed (nodes p) v = p v
+
+-- the hop from u to v is up: both nodes are, and the link between them
+unfoldable pub up : Set → Fault → ℕ → ℕ → Bool
+up N nothing u v = true
+up N (link l) u v = not (eqb (linkBetween N u v) l)
+up N (nodes p) u v = not (p u || p v)
+
+-- ---- what a router looks up: next hops by topology, node and destination; alternates by node and neighbour
+
+pub record Tables : Type 0 where
+  pub next : ℕ → ℕ → ℕ → ℕ
+  pub alternate : ℕ → ℕ → ℕ
+
+-- the tables of a set, by the rules
+unfoldable pub tablesOf : Set → Tables
+tablesOf N = record { next = nextHop N; alternate = alternate N }
+
+-- where an entry stands in the tables' bytes: next hops by topology, node, destination; the alternates are a table of their own after topology k's
+unfoldable pub entryPlace : Network → ℕ → ℕ → ℕ → ℕ
+entryPlace h i u t = i * (h .n * h .n) + (u * h .n + t)
+
+-- tables that are lent as bytes, as they are
+unfoldable pub lentTables : Network → List ℕ → Tables
+lentTables h s = record { next = λ i u t. getD s (entryPlace h i u t) 0; alternate = λ u v. getD s (entryPlace h (h .k + 1) u v) 0 }
+
+-- ---- one hop
+
+abbrev pub packet : ℕ → ℕ → ℕ → Packet
+packet u t i = record { place = u; destination = t; topology = i }
+
+-- "The change and the move to the new neighbour are one hop; if that neighbour or link is down too, drop instead. A dropped packet keeps its
+-- place and topology." on: which hops are up; w: the neighbour; j: the topology
+unfoldable pub moveOrDrop : (ℕ → ℕ → Bool) → Packet → ℕ → ℕ → Kind → Step
+moveOrDrop on p w j kind = if on (p .place) w then Moved (packet w (p .destination) j) kind else Dropped p
+
+-- v is the next hop in topology 0, and v or the link to it is down; w is the next hop in v's home topology.
+-- "1. [..] If it isn't v, use that topology (kind T where t ≠ v, kind S where t = v). 2. If it is v, use u's home topology and the alternate for v (kind D)."
+unfoldable pub changeTo : Set → Tables → (ℕ → ℕ → Bool) → Packet → ℕ → ℕ → Step
+changeTo N tables on p v w =
+    if eqb w v
+    then moveOrDrop on p (tables .alternate (p .place) v) (home N (p .place)) D
+    else moveOrDrop on p w (home N v) (if eqb (p .destination) v then S else T)
+
+-- v is the next hop, and v or the link to it is down: "If not, and the packet is in a backup topology, drop it. If it is in topology 0: 1. Look up the
+-- next hop for t in v's home topology."
+unfoldable pub blocked : Set → Tables → (ℕ → ℕ → Bool) → Packet → ℕ → Step
+blocked N tables on p v =
+    if eqb (p .topology) 0
+    then changeTo N tables on p v (tables .next (home N v) (p .place) (p .destination))
+    else Dropped p
+
+-- v is the next hop: "If v and the link are up, move."
+unfoldable pub toward : Set → Tables → (ℕ → ℕ → Bool) → Packet → ℕ → Step
+toward N tables on p v =
+    if on (p .place) v
+    then Moved (packet v (p .destination) (p .topology)) Unchanged
+    else blocked N tables on p v
+
+-- "If u = t it is delivered. Otherwise take the next hop v."
+unfoldable pub step : Set → Tables → (ℕ → ℕ → Bool) → Packet → Step
+step N tables on p =
+    if eqb (p .place) (p .destination)
+    then Delivered p
+    else toward N tables on p (tables .next (p .topology) (p .place) (p .destination))
+
+-- ---- 15: "a table entry it looks up isn't a neighbour", judged of the entries in the order in which the step looks them up: 15, or 0
+
+-- the alternate for v is looked up only where the next hop in v's home topology, w, is v
+unfoldable pub alternateNumber : Set → Tables → Packet → ℕ → ℕ → ℕ
+alternateNumber N tables p v w = if eqb w v then need (neighbours N (p .place) (tables .alternate (p .place) v)) 15 0 else 0
+
+-- the next hop in v's home topology is looked up only in topology 0, where v or the link to it is down
+unfoldable pub changeNumber : Set → Tables → Packet → ℕ → ℕ → ℕ
+changeNumber N tables p v w = need (neighbours N (p .place) w) 15 (alternateNumber N tables p v w)
+
+unfoldable pub towardNumber : Set → Tables → (ℕ → ℕ → Bool) → Packet → ℕ → ℕ
+towardNumber N tables on p v =
+    need (neighbours N (p .place) v) 15
+    (if on (p .place) v || not (eqb (p .topology) 0) then 0 else changeNumber N tables p v (tables .next (home N v) (p .place) (p .destination)))
+
+unfoldable pub lookupNumber : Set → Tables → (ℕ → ℕ → Bool) → Packet → ℕ
+lookupNumber N tables on p =
+    if eqb (p .place) (p .destination) then 0 else towardNumber N tables on p (tables .next (p .topology) (p .place) (p .destination))
+
+-- ---- the whole run
+
+-- how a run ended; the nodes visited after the source, in order; the changes of topology, and the kind of the first; the last place and topology
+pub record Run : Type 0 where
+  pub outcome : Outcome
+  pub visited : List ℕ
+  pub changes : ℕ
+  pub kind : Kind
+  pub place : ℕ
+  pub topology : ℕ
+
+unfoldable pub hops : Run → ℕ
+hops r = length (r .visited)
+
+-- "the trail of nodes visited, hops + 1 bytes"
+unfoldable pub trail : ℕ → Run → List ℕ
+trail source r = source ∷ r .visited
+
+-- a run that is over, or not gone on with, where the packet stands
+unfoldable pub stop : Packet → Outcome → Run
+stop p e = record { outcome = e; visited = []; changes = 0; kind = Unchanged; place = p .place; topology = p .topology }
+
+-- the kind of the first change: that of this hop, or else that of the rest
+unfoldable pub firstKind : Kind → Kind → Kind
+firstKind Unchanged rest = rest
+firstKind T rest = T
+firstKind S rest = S
+firstKind D rest = D
+
+unfoldable pub changed : Kind → ℕ
+changed Unchanged = 0
+changed T = 1
+changed S = 1
+changed D = 1
+
+-- a hop, and then the rest of the run
+unfoldable pub onward : ℕ → Kind → Run → Run
+onward v kind r =
+    record {
+      outcome = r .outcome;
+      visited = v ∷ r .visited;
+      changes = changed kind + r .changes;
+      kind = firstKind kind (r .kind);
+      place = r .place;
+      topology = r .topology;
+    }
+
+-- what a step leads to: the end, or the run from where it moved to
+unfoldable pub afterStep : Step → (Packet → Run) → Run
+afterStep (Delivered p) rest = stop p ended.Delivered
+afterStep (Dropped p) rest = stop p ended.Dropped
+afterStep (Moved p kind) rest = onward (p .place) kind (rest p)
+
+-- steps until the packet is delivered or dropped, of at most so many hops
+unfoldable pub run : Set → Tables → (ℕ → ℕ → Bool) → ℕ → Packet → Run
+run N tables on zero p = afterStep (step N tables on p) (λ q. stop p ended.UnderWay)
+run N tables on (suc h) p = afterStep (step N tables on p) (λ q. run N tables on h q)

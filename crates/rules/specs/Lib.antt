@@ -1,0 +1,13 @@
+-- Document 01 as definitions that run, in its order. `Basics` has the few words that are not 01's.
+pub mod Basics
+pub mod Limits
+pub mod File
+pub mod Isolation
+pub mod Distance
+pub mod Forwarding
+pub mod Building
+pub mod Judgement
+pub mod Report
+pub mod Answers
+pub mod Entries
+pub mod Examples

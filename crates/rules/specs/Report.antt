@@ -1,0 +1,118 @@
+-- 01, 'The report program'.
+use mathlib.Core.Bool.{Bool, true, false}
+use mathlib.Core.List.{List, [], _∷_, _++_}
+use Prim.Native.Nat.{ℕ, zero, suc, _+_, _-_, _*_, _/_, _%_}
+use lib.Dec.{eqb, ltb}
+use Rattle.rules.specs.declared.Kind.{Kind}
+use Rattle.rules.specs.declared.Kind.the-variants.{Unchanged, T, S, D}
+use Rattle.rules.specs.declared.Packet.{Packet}
+use Rattle.rules.specs.declared.Step.{Step}
+use Rattle.rules.specs.declared.Step.the-variants.{Delivered, Moved, Dropped}
+use Rattle.rules.specs.declared.Verdict.{Verdict}
+use Rattle.rules.specs.declared.Verdict.the-variants.{Accepted, Refused}
+use Rattle.rules.specs.Basics.{if_then_else_, flat}
+use Rattle.rules.specs.Limits.{mostHops}
+use Rattle.rules.specs.File.{Set}
+use Rattle.rules.specs.Isolation.{linkBetween}
+use Rattle.rules.specs.Distance.{nextHop}
+use Rattle.rules.specs.Forwarding.{Fault, nothing, link, up, tablesOf, packet, step, Run, hops, run}
+
+-- ---- numbers and lines
+
+-- a number in decimal, of at most so many digits and one more
+unfoldable pub digits : ℕ → ℕ → List ℕ
+digits zero x = (48 + x % 10) ∷ []
+digits (suc more) x = if ltb x 10 then (48 + x) ∷ [] else digits more (x / 10) ++ ((48 + x % 10) ∷ [])
+
+unfoldable pub decimal : ℕ → List ℕ
+decimal x = digits 19 x
+
+-- one space between fields, a newline after every line
+abbrev pub space : List ℕ
+space = 32 ∷ []
+
+abbrev pub newline : List ℕ
+newline = 10 ∷ []
+
+-- "T, S or D", and - where there was no change
+unfoldable pub letter : Kind → ℕ
+letter Unchanged = 45
+letter T = 84
+letter S = 83
+letter D = 68
+
+-- "The first line of the report never varies": node via dest kind topology next hops extra
+unfoldable pub headerLine : List ℕ
+headerLine =
+    110 ∷ 111 ∷ 100 ∷ 101 ∷ 32 ∷ 118 ∷ 105 ∷ 97 ∷ 32 ∷ 100 ∷ 101 ∷ 115 ∷ 116 ∷ 32 ∷ 107 ∷ 105 ∷ 110 ∷ 100 ∷ 32 ∷ 116 ∷ 111 ∷ 112 ∷ 111 ∷ 108 ∷ 111 ∷ 103 ∷ 121 ∷ 32 ∷ 110 ∷ 101 ∷ 120 ∷ 116 ∷ 32 ∷ 104 ∷ 111 ∷ 112 ∷ 115 ∷ 32 ∷ 101 ∷ 120 ∷ 116 ∷ 114 ∷ 97 ∷ 10 ∷ []
+
+-- ---- one detection: node u, destination t, "with that one link down"
+
+-- the packet after a step, and the kind of its change
+unfoldable pub packetOf : Step → Packet
+packetOf (Delivered p) = p
+packetOf (Moved p kind) = p
+packetOf (Dropped p) = p
+
+unfoldable pub kindOf : Step → Kind
+kindOf (Delivered p) = Unchanged
+kindOf (Moved p kind) = kind
+kindOf (Dropped p) = Unchanged
+
+-- the link from u to its next hop for t in topology 0
+unfoldable pub detectedLink : Set → ℕ → ℕ → ℕ
+detectedLink N u t = linkBetween N u (nextHop N 0 u t)
+
+-- what u does with a packet for t that it finds that link down for
+unfoldable pub detection : Set → ℕ → ℕ → Step
+detection N u t = step N (tablesOf N) (up N (link (detectedLink N u t))) (packet u t 0)
+
+-- the run of a packet from u to t under this fault
+unfoldable pub runUnder : Set → Fault → ℕ → ℕ → Run
+runUnder N f u t = run N (tablesOf N) (up N f) (mostHops (N .net)) (packet u t 0)
+
+-- "hops from this node to the destination with that one link down"
+unfoldable pub backupHops : Set → ℕ → ℕ → ℕ
+backupHops N u t = hops (runUnder N (link (detectedLink N u t)) u t)
+
+unfoldable pub plainHops : Set → ℕ → ℕ → ℕ
+plainHops N u t = hops (runUnder N nothing u t)
+
+-- "extra, those hops minus the hops in topology 0, or 0 where the backup path is no longer"
+unfoldable pub extraHops : Set → ℕ → ℕ → ℕ
+extraHops N u t = backupHops N u t - plainHops N u t
+
+-- "the detecting node (the "seen from" column); its next hop in topology 0; the destination; T, S or D; the topology changed to; the neighbour
+-- taken; hops [..]; and extra"
+unfoldable pub detectionLine : Set → ℕ → ℕ → List ℕ
+detectionLine N u t =
+    decimal u ++ (space
+    ++ (decimal (nextHop N 0 u t) ++ (space
+    ++ (decimal t ++ (space
+    ++ (letter (kindOf (detection N u t)) ∷ (space
+    ++ (decimal (packetOf (detection N u t) .topology) ++ (space
+    ++ (decimal (packetOf (detection N u t) .place) ++ (space
+    ++ (decimal (backupHops N u t) ++ (space
+    ++ (decimal (extraHops N u t) ++ newline))))))))))))))
+
+-- "one line for each node and each other destination, by node, then destination"
+unfoldable pub detectionLines : Set → List ℕ
+detectionLines N =
+    flat (λ u. flat (λ t. if eqb u t then [] else detectionLine N u t) (N .net .n)) (N .net .n)
+
+-- "Last line: `detections` and the count, n × (n - 1)."
+unfoldable pub lastLine : Set → List ℕ
+lastLine N = 100 ∷ 101 ∷ 116 ∷ 101 ∷ 99 ∷ 116 ∷ 105 ∷ 111 ∷ 110 ∷ 115 ∷ 32 ∷ (decimal (N .net .n * (N .net .n - 1)) ++ newline)
+
+unfoldable pub reportText : Set → List ℕ
+reportText N = headerLine ++ (detectionLines N ++ lastLine N)
+
+-- "A refusal prints only `refused N at P`."
+unfoldable pub refusalLine : ℕ → ℕ → List ℕ
+refusalLine number place =
+    114 ∷ 101 ∷ 102 ∷ 117 ∷ 115 ∷ 101 ∷ 100 ∷ 32 ∷ (decimal number ++ (32 ∷ 97 ∷ 116 ∷ 32 ∷ (decimal place ++ newline)))
+
+-- what the program prints
+unfoldable pub printed : Set → Verdict → List ℕ
+printed N Accepted = reportText N
+printed N (Refused number place) = refusalLine number place

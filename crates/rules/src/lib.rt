@@ -1,0 +1,154 @@
+// The rules of document 01: the types that every entry speaks in, at the file's widths, and the limits and sizes that follow
+// from them. What the words of 01 mean stands in specs/, in 01's order. Every other crate is code that is proved equal to
+// those definitions; this one promises that its sizes are the ones that the definitions give.
+ghost use mathlib.Core.Path.{_≡_};
+ghost use Rattle.rules.specs.Limits.{longest};
+
+// The counts of a file's header, at the file's widths.
+pub struct Network {
+    pub n: u8,
+    pub m: u16,
+    pub k: u8,
+    pub wmax: u16,
+}
+
+// The longest of each thing that a caller lends room for.
+pub struct Longest {
+    pub file: usize,
+    pub tables: usize,
+    pub trail: usize,
+    pub report: usize,
+}
+
+impl Network {
+    pub const MIN_NODES: u8 = 3;
+    pub const MAX_NODES: u8 = 32;
+    pub const MIN_LINKS: u16 = 3;
+    pub const MAX_LINKS: u16 = 128;
+    pub const MAX_TOPOLOGIES: u8 = 32;
+    pub const MIN_WMAX: u16 = 1;
+    pub const MAX_CAP: u8 = 32;
+
+    // The lengths of the file's records; a row is ROW_HEAD bytes and then WEIGHT bytes for each link.
+    pub const HEADER: usize = 8;
+    pub const LINK: usize = 6;
+    pub const HOME: usize = 4;
+    pub const ROW_HEAD: usize = 3;
+    pub const WEIGHT: usize = 2;
+
+    pub const LONGEST_ROW: usize =
+        Network::ROW_HEAD + Network::WEIGHT * (Network::MAX_LINKS as usize);
+    pub const LONGEST_FILE: usize = Network::HEADER
+        + Network::LINK * (Network::MAX_LINKS as usize)
+        + Network::HOME * (Network::MAX_NODES as usize)
+        + (Network::MAX_TOPOLOGIES as usize) * Network::LONGEST_ROW;
+
+    // Next hops for topologies 0 to 32, then the alternates.
+    pub const LONGEST_TABLES: usize = (Network::MAX_TOPOLOGIES as usize + 2)
+        * (Network::MAX_NODES as usize)
+        * (Network::MAX_NODES as usize);
+
+    // A run makes at most 2n - 3 hops and visits one node more.
+    pub const LONGEST_TRAIL: usize = 2 * (Network::MAX_NODES as usize) - 2;
+
+    // A line of a report has seven numbers of at most two digits, a letter, seven spaces and a newline.
+    pub const REPORT_HEAD: usize = 44;
+    pub const REPORT_LINE: usize = 23;
+    pub const REPORT_LAST: usize = 15;
+    pub const LONGEST_REPORT: usize = Network::REPORT_HEAD
+        + (Network::MAX_NODES as usize)
+            * (Network::MAX_NODES as usize - 1)
+            * Network::REPORT_LINE
+        + Network::REPORT_LAST;
+
+    // A header with these counts; whether they are within their limits is the judge's to say.
+    pub fn header(n: u8, m: u16, k: u8, wmax: u16) -> Network
+        ensures { λ r. ⌜ r ≡ record { n = n; m = m; k = k; wmax = wmax } ⌝ }
+    {
+        Network { n, m, k, wmax }
+    }
+
+    // The sizes above, equal to those of the definitions.
+    pub fn longest() -> Longest
+        ensures { λ r. ⌜ r ≡ longest ⌝ }
+    {
+        Longest {
+            file: Network::LONGEST_FILE,
+            tables: Network::LONGEST_TABLES,
+            trail: Network::LONGEST_TRAIL,
+            report: Network::LONGEST_REPORT,
+        }
+    }
+}
+
+// What the judge and the check say: accepted, or refused with 01's number and place.
+pub enum Verdict {
+    Accepted,
+    Refused { number: u8, place: usize },
+}
+
+// What reading answers: the header, or the refusal.
+pub enum ReadAnswer {
+    Read(Network),
+    Refused { number: u8, place: usize },
+}
+
+// What writing, building, the tables and the report answer: how many bytes they wrote, or the refusal.
+pub enum LengthAnswer {
+    Length(usize),
+    Refused { number: u8, place: usize },
+}
+
+// What is down: nothing, one link by its number in the file, or one node with all its links.
+pub enum Failure {
+    Nothing,
+    Link(u16),
+    Node(u8),
+}
+
+// A packet: where it is, where it goes, and the topology it is in.
+pub struct Packet {
+    pub place: u8,
+    pub destination: u8,
+    pub topology: u8,
+}
+
+// The kind of a change of topology, by 01's letters, or no change.
+pub enum Kind {
+    Unchanged,
+    T,
+    S,
+    D,
+}
+
+// What one step makes of a packet: it was at its destination; it moved, with or without a change of topology; it was dropped.
+pub enum Step {
+    Delivered(Packet),
+    Moved(Packet, Kind),
+    Dropped(Packet),
+}
+
+pub enum StepAnswer {
+    Taken(Step),
+    Refused { number: u8, place: usize },
+}
+
+// How a packet stands.
+pub enum Outcome {
+    UnderWay,
+    Delivered,
+    Dropped,
+}
+
+// A run to its end: how it ended, its hops, its last topology and the kind of its one change.
+pub struct Journey {
+    pub outcome: Outcome,
+    pub hops: u8,
+    pub topology: u8,
+    pub kind: Kind,
+}
+
+pub enum RunAnswer {
+    Ended(Journey),
+    Refused { number: u8, place: usize },
+}
