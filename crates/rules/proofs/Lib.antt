@@ -1,1 +1,3 @@
+-- Laws of the definitions, and the theorems.
+pub mod Choices
 pub mod Examples

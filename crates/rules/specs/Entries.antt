@@ -44,8 +44,8 @@ pub record Promise {Input Lent Answer : Type 0} (E : Entry Input Lent Answer) (i
   pub lent : after ≡ onAccept (E .verdict i before) (E .leaves i before) before
 
 -- nothing is lent
-abbrev pub Nothing-lent : Type 0
-Nothing-lent = Unit {0}
+abbrev pub NothingLent : Type 0
+NothingLent = Unit {0}
 
 -- ---- read: from a file into five lent lists. Refusals 1 to 6, 14
 
@@ -108,7 +108,7 @@ writeEntry =
 
 -- ---- check: of a file. Refusals 1 to 6, 13, then 7 and 8 by topology
 
-unfoldable pub checkEntry : Entry (List ℕ) Nothing-lent Verdict
+unfoldable pub checkEntry : Entry (List ℕ) NothingLent Verdict
 checkEntry = record { verdict = λ s d. check s; tells = verdictTells; gives = λ s d. []; leaves = λ s d. d }
 
 -- ---- build: from a graph's file and a cap into a lent file. Refusals 1 to 6, 13, 11, 9, 10, 14
@@ -161,7 +161,7 @@ unfoldable pub stepOf : StepInput → List ℕ
 stepOf i =
     stepValues (step (setOf (i .file)) (lentTables (headerOf (i .file)) (i .tables)) (up (setOf (i .file)) (faultOf (i .failure))) (i .packet))
 
-unfoldable pub stepEntry : Entry StepInput Nothing-lent StepAnswer
+unfoldable pub stepEntry : Entry StepInput NothingLent StepAnswer
 stepEntry =
     record {
       verdict = λ i d.

@@ -9,7 +9,7 @@ use Rattle.rules.specs.declared.Packet.{Packet}
 use Rattle.rules.specs.declared.Failure.{Failure}
 use Rattle.rules.specs.declared.Failure.the-variants.{Nothing, Link, Node}
 use Rattle.rules.specs.declared.Kind.{Kind}
-use Rattle.rules.specs.declared.Kind.the-variants.{Unchanged, T, S, D}
+use Rattle.rules.specs.declared.Kind.the-variants as change
 use Rattle.rules.specs.declared.Step.{Step}
 use Rattle.rules.specs.declared.Step.the-variants.{Delivered, Moved, Dropped}
 use Rattle.rules.specs.declared.Outcome.{Outcome}
@@ -42,9 +42,9 @@ failed (nodes p) v = p v
 
 -- the hop from u to v is up: both nodes are, and the link between them
 unfoldable pub up : Set → Fault → ℕ → ℕ → Bool
-up N nothing u v = true
-up N (link l) u v = not (eqb (linkBetween N u v) l)
-up N (nodes p) u v = not (p u || p v)
+up S nothing u v = true
+up S (link l) u v = not (eqb (linkBetween S u v) l)
+up S (nodes p) u v = not (p u || p v)
 
 -- ---- what a router looks up: next hops by topology, node and destination; alternates by node and neighbour
 
@@ -54,7 +54,7 @@ pub record Tables : Type 0 where
 
 -- the tables of a set, by the rules
 unfoldable pub tablesOf : Set → Tables
-tablesOf N = record { next = nextHop N; alternate = alternate N }
+tablesOf S = record { next = nextHop S; alternate = alternate S }
 
 -- where an entry stands in the tables' bytes: next hops by topology, node, destination; the alternates are a table of their own after topology k's
 unfoldable pub entryPlace : Network → ℕ → ℕ → ℕ → ℕ
@@ -77,51 +77,51 @@ moveOrDrop on p w j kind = if on (p .place) w then Moved (packet w (p .destinati
 -- v is the next hop in topology 0, and v or the link to it is down; w is the next hop in v's home topology.
 -- "1. [..] If it isn't v, use that topology (kind T where t ≠ v, kind S where t = v). 2. If it is v, use u's home topology and the alternate for v (kind D)."
 unfoldable pub changeTo : Set → Tables → (ℕ → ℕ → Bool) → Packet → ℕ → ℕ → Step
-changeTo N tables on p v w =
+changeTo S tables on p v w =
     if eqb w v
-    then moveOrDrop on p (tables .alternate (p .place) v) (home N (p .place)) D
-    else moveOrDrop on p w (home N v) (if eqb (p .destination) v then S else T)
+    then moveOrDrop on p (tables .alternate (p .place) v) (home S (p .place)) change.D
+    else moveOrDrop on p w (home S v) (if eqb (p .destination) v then change.S else change.T)
 
 -- v is the next hop, and v or the link to it is down: "If not, and the packet is in a backup topology, drop it. If it is in topology 0: 1. Look up the
 -- next hop for t in v's home topology."
 unfoldable pub blocked : Set → Tables → (ℕ → ℕ → Bool) → Packet → ℕ → Step
-blocked N tables on p v =
+blocked S tables on p v =
     if eqb (p .topology) 0
-    then changeTo N tables on p v (tables .next (home N v) (p .place) (p .destination))
+    then changeTo S tables on p v (tables .next (home S v) (p .place) (p .destination))
     else Dropped p
 
 -- v is the next hop: "If v and the link are up, move."
 unfoldable pub toward : Set → Tables → (ℕ → ℕ → Bool) → Packet → ℕ → Step
-toward N tables on p v =
+toward S tables on p v =
     if on (p .place) v
-    then Moved (packet v (p .destination) (p .topology)) Unchanged
-    else blocked N tables on p v
+    then Moved (packet v (p .destination) (p .topology)) change.Unchanged
+    else blocked S tables on p v
 
 -- "If u = t it is delivered. Otherwise take the next hop v."
 unfoldable pub step : Set → Tables → (ℕ → ℕ → Bool) → Packet → Step
-step N tables on p =
+step S tables on p =
     if eqb (p .place) (p .destination)
     then Delivered p
-    else toward N tables on p (tables .next (p .topology) (p .place) (p .destination))
+    else toward S tables on p (tables .next (p .topology) (p .place) (p .destination))
 
 -- ---- 15: "a table entry it looks up isn't a neighbour", judged of the entries in the order in which the step looks them up: 15, or 0
 
 -- the alternate for v is looked up only where the next hop in v's home topology, w, is v
 unfoldable pub alternateNumber : Set → Tables → Packet → ℕ → ℕ → ℕ
-alternateNumber N tables p v w = if eqb w v then need (neighbours N (p .place) (tables .alternate (p .place) v)) 15 0 else 0
+alternateNumber S tables p v w = if eqb w v then need (neighbours S (p .place) (tables .alternate (p .place) v)) 15 0 else 0
 
 -- the next hop in v's home topology is looked up only in topology 0, where v or the link to it is down
 unfoldable pub changeNumber : Set → Tables → Packet → ℕ → ℕ → ℕ
-changeNumber N tables p v w = need (neighbours N (p .place) w) 15 (alternateNumber N tables p v w)
+changeNumber S tables p v w = need (neighbours S (p .place) w) 15 (alternateNumber S tables p v w)
 
 unfoldable pub towardNumber : Set → Tables → (ℕ → ℕ → Bool) → Packet → ℕ → ℕ
-towardNumber N tables on p v =
-    need (neighbours N (p .place) v) 15
-    (if on (p .place) v || not (eqb (p .topology) 0) then 0 else changeNumber N tables p v (tables .next (home N v) (p .place) (p .destination)))
+towardNumber S tables on p v =
+    need (neighbours S (p .place) v) 15
+    (if on (p .place) v || not (eqb (p .topology) 0) then 0 else changeNumber S tables p v (tables .next (home S v) (p .place) (p .destination)))
 
 unfoldable pub lookupNumber : Set → Tables → (ℕ → ℕ → Bool) → Packet → ℕ
-lookupNumber N tables on p =
-    if eqb (p .place) (p .destination) then 0 else towardNumber N tables on p (tables .next (p .topology) (p .place) (p .destination))
+lookupNumber S tables on p =
+    if eqb (p .place) (p .destination) then 0 else towardNumber S tables on p (tables .next (p .topology) (p .place) (p .destination))
 
 -- ---- the whole run
 
@@ -143,20 +143,20 @@ trail source r = source ∷ r .visited
 
 -- a run that is over, or not gone on with, where the packet stands
 unfoldable pub stop : Packet → Outcome → Run
-stop p e = record { outcome = e; visited = []; changes = 0; kind = Unchanged; place = p .place; topology = p .topology }
+stop p e = record { outcome = e; visited = []; changes = 0; kind = change.Unchanged; place = p .place; topology = p .topology }
 
 -- the kind of the first change: that of this hop, or else that of the rest
 unfoldable pub firstKind : Kind → Kind → Kind
-firstKind Unchanged rest = rest
-firstKind T rest = T
-firstKind S rest = S
-firstKind D rest = D
+firstKind change.Unchanged rest = rest
+firstKind change.T rest = change.T
+firstKind change.S rest = change.S
+firstKind change.D rest = change.D
 
 unfoldable pub changed : Kind → ℕ
-changed Unchanged = 0
-changed T = 1
-changed S = 1
-changed D = 1
+changed change.Unchanged = 0
+changed change.T = 1
+changed change.S = 1
+changed change.D = 1
 
 -- a hop, and then the rest of the run
 unfoldable pub onward : ℕ → Kind → Run → Run
@@ -178,5 +178,5 @@ afterStep (Moved p kind) rest = onward (p .place) kind (rest p)
 
 -- steps until the packet is delivered or dropped, of at most so many hops
 unfoldable pub run : Set → Tables → (ℕ → ℕ → Bool) → ℕ → Packet → Run
-run N tables on zero p = afterStep (step N tables on p) (λ q. stop p ended.UnderWay)
-run N tables on (suc h) p = afterStep (step N tables on p) (λ q. run N tables on h q)
+run S tables on zero p = afterStep (step S tables on p) (λ q. stop p ended.UnderWay)
+run S tables on (suc h) p = afterStep (step S tables on p) (λ q. run S tables on h q)

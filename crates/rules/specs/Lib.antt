@@ -10,4 +10,5 @@ pub mod Judgement
 pub mod Report
 pub mod Answers
 pub mod Entries
+pub mod Demands
 pub mod Examples

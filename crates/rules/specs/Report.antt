@@ -4,7 +4,7 @@ use mathlib.Core.List.{List, [], _∷_, _++_}
 use Prim.Native.Nat.{ℕ, zero, suc, _+_, _-_, _*_, _/_, _%_}
 use lib.Dec.{eqb, ltb}
 use Rattle.rules.specs.declared.Kind.{Kind}
-use Rattle.rules.specs.declared.Kind.the-variants.{Unchanged, T, S, D}
+use Rattle.rules.specs.declared.Kind.the-variants as change
 use Rattle.rules.specs.declared.Packet.{Packet}
 use Rattle.rules.specs.declared.Step.{Step}
 use Rattle.rules.specs.declared.Step.the-variants.{Delivered, Moved, Dropped}
@@ -36,10 +36,10 @@ newline = 10 ∷ []
 
 -- "T, S or D", and - where there was no change
 unfoldable pub letter : Kind → ℕ
-letter Unchanged = 45
-letter T = 84
-letter S = 83
-letter D = 68
+letter change.Unchanged = 45
+letter change.T = 84
+letter change.S = 83
+letter change.D = 68
 
 -- "The first line of the report never varies": node via dest kind topology next hops extra
 unfoldable pub headerLine : List ℕ
@@ -55,57 +55,57 @@ packetOf (Moved p kind) = p
 packetOf (Dropped p) = p
 
 unfoldable pub kindOf : Step → Kind
-kindOf (Delivered p) = Unchanged
+kindOf (Delivered p) = change.Unchanged
 kindOf (Moved p kind) = kind
-kindOf (Dropped p) = Unchanged
+kindOf (Dropped p) = change.Unchanged
 
 -- the link from u to its next hop for t in topology 0
 unfoldable pub detectedLink : Set → ℕ → ℕ → ℕ
-detectedLink N u t = linkBetween N u (nextHop N 0 u t)
+detectedLink S u t = linkBetween S u (nextHop S 0 u t)
 
 -- what u does with a packet for t that it finds that link down for
 unfoldable pub detection : Set → ℕ → ℕ → Step
-detection N u t = step N (tablesOf N) (up N (link (detectedLink N u t))) (packet u t 0)
+detection S u t = step S (tablesOf S) (up S (link (detectedLink S u t))) (packet u t 0)
 
 -- the run of a packet from u to t under this fault
 unfoldable pub runUnder : Set → Fault → ℕ → ℕ → Run
-runUnder N f u t = run N (tablesOf N) (up N f) (mostHops (N .net)) (packet u t 0)
+runUnder S f u t = run S (tablesOf S) (up S f) (mostHops (S .net)) (packet u t 0)
 
 -- "hops from this node to the destination with that one link down"
 unfoldable pub backupHops : Set → ℕ → ℕ → ℕ
-backupHops N u t = hops (runUnder N (link (detectedLink N u t)) u t)
+backupHops S u t = hops (runUnder S (link (detectedLink S u t)) u t)
 
 unfoldable pub plainHops : Set → ℕ → ℕ → ℕ
-plainHops N u t = hops (runUnder N nothing u t)
+plainHops S u t = hops (runUnder S nothing u t)
 
 -- "extra, those hops minus the hops in topology 0, or 0 where the backup path is no longer"
 unfoldable pub extraHops : Set → ℕ → ℕ → ℕ
-extraHops N u t = backupHops N u t - plainHops N u t
+extraHops S u t = backupHops S u t - plainHops S u t
 
 -- "the detecting node (the "seen from" column); its next hop in topology 0; the destination; T, S or D; the topology changed to; the neighbour
 -- taken; hops [..]; and extra"
 unfoldable pub detectionLine : Set → ℕ → ℕ → List ℕ
-detectionLine N u t =
+detectionLine S u t =
     decimal u ++ (space
-    ++ (decimal (nextHop N 0 u t) ++ (space
+    ++ (decimal (nextHop S 0 u t) ++ (space
     ++ (decimal t ++ (space
-    ++ (letter (kindOf (detection N u t)) ∷ (space
-    ++ (decimal (packetOf (detection N u t) .topology) ++ (space
-    ++ (decimal (packetOf (detection N u t) .place) ++ (space
-    ++ (decimal (backupHops N u t) ++ (space
-    ++ (decimal (extraHops N u t) ++ newline))))))))))))))
+    ++ (letter (kindOf (detection S u t)) ∷ (space
+    ++ (decimal (packetOf (detection S u t) .topology) ++ (space
+    ++ (decimal (packetOf (detection S u t) .place) ++ (space
+    ++ (decimal (backupHops S u t) ++ (space
+    ++ (decimal (extraHops S u t) ++ newline))))))))))))))
 
 -- "one line for each node and each other destination, by node, then destination"
 unfoldable pub detectionLines : Set → List ℕ
-detectionLines N =
-    flat (λ u. flat (λ t. if eqb u t then [] else detectionLine N u t) (N .net .n)) (N .net .n)
+detectionLines S =
+    flat (λ u. flat (λ t. if eqb u t then [] else detectionLine S u t) (S .net .n)) (S .net .n)
 
 -- "Last line: `detections` and the count, n × (n - 1)."
 unfoldable pub lastLine : Set → List ℕ
-lastLine N = 100 ∷ 101 ∷ 116 ∷ 101 ∷ 99 ∷ 116 ∷ 105 ∷ 111 ∷ 110 ∷ 115 ∷ 32 ∷ (decimal (N .net .n * (N .net .n - 1)) ++ newline)
+lastLine S = 100 ∷ 101 ∷ 116 ∷ 101 ∷ 99 ∷ 116 ∷ 105 ∷ 111 ∷ 110 ∷ 115 ∷ 32 ∷ (decimal (S .net .n * (S .net .n - 1)) ++ newline)
 
 unfoldable pub reportText : Set → List ℕ
-reportText N = headerLine ++ (detectionLines N ++ lastLine N)
+reportText S = headerLine ++ (detectionLines S ++ lastLine S)
 
 -- "A refusal prints only `refused N at P`."
 unfoldable pub refusalLine : ℕ → ℕ → List ℕ
@@ -114,5 +114,5 @@ refusalLine number place =
 
 -- what the program prints
 unfoldable pub printed : Set → Verdict → List ℕ
-printed N Accepted = reportText N
-printed N (Refused number place) = refusalLine number place
+printed S Accepted = reportText S
+printed S (Refused number place) = refusalLine number place

@@ -1,0 +1,310 @@
+-- Demands 1 to 3 as statements over the definitions. What is shown of them stands in proofs/, under the names that are given here.
+use mathlib.Core.Path.{_≡_}
+use mathlib.Core.Logic.{_↔_, _⊎_}
+use mathlib.Core.Bool.{Bool, true, false, not, _&&_}
+use mathlib.Core.List.{List, [], _∷_}
+use Prim.Native.Nat.{ℕ, zero, suc, _+_, _-_, _*_, _≤_, _<_}
+use lib.Dec.{eqb}
+use lib.ListN.{length, getD, take}
+use Rattle.rules.specs.declared.Network.{Network}
+use Rattle.rules.specs.declared.Packet.{Packet}
+use Rattle.rules.specs.declared.Verdict.{Verdict}
+use Rattle.rules.specs.declared.Verdict.the-variants.{Accepted, Refused}
+use Rattle.rules.specs.declared.Step.{Step}
+use Rattle.rules.specs.declared.Step.the-variants.{Moved}
+use Rattle.rules.specs.declared.Kind.{Kind}
+use Rattle.rules.specs.declared.Kind.the-variants as change
+use Rattle.rules.specs.declared.Outcome.the-variants as ended
+use Rattle.rules.specs.declared.ReadAnswer.the-variants as read
+use Rattle.rules.specs.declared.LengthAnswer.{LengthAnswer}
+use Rattle.rules.specs.declared.LengthAnswer.the-variants as long
+use Rattle.rules.specs.declared.RunAnswer.{RunAnswer}
+use Rattle.rules.specs.declared.RunAnswer.the-variants as ran
+use Rattle.rules.specs.Limits.{homeRecords, rowWeights, fileLength, tablesLength, mostHops, trailRoom, longest}
+use Rattle.rules.specs.File.{Set, encode, headerOf, setOf}
+use Rattle.rules.specs.Isolation.{neighbours, home, isolated, backbone, class, Class, Normal, rowInForce, hopWeight, usable, normalHop}
+use Rattle.rules.specs.Distance.{Path, LeastTotal, distance, nextHop, candidate, alternate, tableBytes}
+use Rattle.rules.specs.Forwarding.{Fault, nothing, link, nodes, faultOf, failed, up, Tables, tablesOf, packet, step, Run, hops, trail, run}
+use Rattle.rules.specs.Building.{fits, built}
+use Rattle.rules.specs.Judgement.{judge, check}
+use Rattle.rules.specs.Report.{detectedLink, detection, runUnder}
+use Rattle.rules.specs.Answers.{Told, refused}
+use Rattle.rules.specs.Entries.{Entry, Promise, Lists, lists, readEntry, WriteInput, writeEntry, checkEntry, BuildInput, buildEntry, tablesEntry, stepEntry, RunInput, RunLent, runEntry, reportEntry}
+
+-- ==== Demand 1. "Every entry takes every input. What is outside the written limits is refused by number and place, nothing lent is altered, no caller
+-- has to check first." No entry has a `requires`; of its promise:
+pub record TakesEveryInput {Input Lent Answer : Type 0} (E : Entry Input Lent Answer) : Type 0 where
+  -- whatever it is given and lent, the promise allows a result
+  pub taken : (i : Input) (before : Lent) → (r : Answer) × (after : Lent) × Promise E i before r after
+  -- a refusal tells its number and place, and what was lent is as it came
+  pub unaltered : (i : Input) (before : Lent) (r : Answer) (after : Lent) (number place : ℕ) → Promise E i before r after
+      → E .verdict i before ≡ Refused number place → (E .tells r ≡ refused number place) × (after ≡ before)
+  -- two results that it allows coincide
+  pub determined : (i : Input) (before : Lent) (r r′ : Answer) (after after′ : Lent) → Promise E i before r after → Promise E i before r′ after′
+      → (r ≡ r′) × (after ≡ after′)
+
+pub record Demand1 : Type 0 where
+  pub read : TakesEveryInput readEntry
+  pub write : TakesEveryInput writeEntry
+  pub check : TakesEveryInput checkEntry
+  pub build : TakesEveryInput buildEntry
+  pub tables : TakesEveryInput tablesEntry
+  pub step : TakesEveryInput stepEntry
+  pub run : TakesEveryInput runEntry
+  pub report : TakesEveryInput reportEntry
+
+-- ==== Demand 2. "A file or set is accepted exactly when it meets the published rules."
+
+pub record WithinLimits (h : Network) : Type 0 where
+  pub nodes : (3 ≤ h .n) × (h .n ≤ 32)
+  pub links : (3 ≤ h .m) × (h .m ≤ 128)
+  pub topologies : (h .k ≤ 32) × (h .k ≤ h .n)
+  pub weights : (1 ≤ h .wmax) × (h .wmax ≤ 65535)
+
+-- link l's entry of a list of a set
+abbrev pub at : List ℕ → ℕ → ℕ
+at list l = getD list l 0
+
+-- the rules of 01's 'The file', one by one
+pub record MeetsRules (S : Set) : Type 0 where
+  pub limits : WithinLimits (S .net)
+  -- the lists are as long as the counts say
+  pub links-long : (length (S .a) ≡ S .net .m) × (length (S .b) ≡ S .net .m) × (length (S .weights) ≡ S .net .m)
+  pub homes-long : length (S .homes) ≡ homeRecords (S .net)
+  pub rows-long : length (S .rows) ≡ S .net .k * rowWeights (S .net)
+  -- "Links have a < b < n"
+  pub ends : (l : ℕ) → l < S .net .m → (at (S .a) l < at (S .b) l) × (at (S .b) l < S .net .n)
+  -- "and rise strictly by a, then b"
+  pub order : (l : ℕ) → suc l < S .net .m
+      → (at (S .a) l < at (S .a) (suc l)) ⊎ ((at (S .a) l ≡ at (S .a) (suc l)) × (at (S .b) l < at (S .b) (suc l)))
+  -- a link's weight is 1 to wmax
+  pub weights : (l : ℕ) → l < S .net .m → (1 ≤ at (S .weights) l) × (at (S .weights) l ≤ S .net .wmax)
+  -- "each home is 1 to k"
+  pub homes : (v : ℕ) → v < homeRecords (S .net) → (1 ≤ home S v) × (home S v ≤ S .net .k)
+  -- "Row i holds [..] 1 to wmax for each [link] that is [normal in i]"
+  pub normal : (i l : ℕ) → 1 ≤ i → i ≤ S .net .k → l < S .net .m → class S i l ≡ Normal
+      → (1 ≤ at (rowInForce S i) l) × (at (rowInForce S i) l ≤ S .net .wmax)
+  -- "and 0 for each link that isn't normal in i"
+  pub other : (i l : ℕ) → 1 ≤ i → i ≤ S .net .k → l < S .net .m → (class S i l ≡ Normal → ⊥) → at (rowInForce S i) l ≡ 0
+
+-- the entries of a list are bytes
+abbrev pub Bytes : List ℕ → Type 0
+Bytes s = (i : ℕ) → i < length s → getD s i 0 < 256
+
+-- bytes are accepted exactly when they are the encoding of a set that meets the rules, and of one only
+abbrev pub AcceptedExactly : Type 0
+AcceptedExactly = (s : List ℕ) → Bytes s → (judge s ≡ Accepted) ↔ ((S : Set) × MeetsRules S × (encode S ≡ s))
+
+abbrev pub OneSet : Type 0
+OneSet = (S S′ : Set) → MeetsRules S → MeetsRules S′ → encode S ≡ encode S′ → S ≡ S′
+
+abbrev pub LongestFile : Type 0
+LongestFile = (s : List ℕ) → judge s ≡ Accepted → length s ≤ 9192
+
+-- "An accepted file written out again is the same bytes": what reading left in the lists, written into any room that is long enough
+abbrev pub SameBytes : Type 0
+SameBytes =
+    (s : List ℕ) → Bytes s → (before after : Lists) (h : Network) → Promise readEntry s before (read.Read h) after
+    → (room written : List ℕ) (r : LengthAnswer) → length s ≤ length room → Promise writeEntry (record { net = h; lists = after }) room r written
+    → (r ≡ long.Length (length s)) × (take (length s) written ≡ s)
+
+-- the entries of a list within a count
+abbrev pub Same : ℕ → List ℕ → List ℕ → Type 0
+Same count l l′ = take count l ≡ take count l′
+
+pub record SameLists (h : Network) (d d′ : Lists) : Type 0 where
+  pub a : Same (h .m) (d .a) (d′ .a)
+  pub b : Same (h .m) (d .b) (d′ .b)
+  pub weights : Same (h .m) (d .weights) (d′ .weights)
+  pub homes : Same (homeRecords h) (d .homes) (d′ .homes)
+  pub rows : Same (h .k * rowWeights h) (d .rows) (d′ .rows)
+
+-- "a set written out reads back as itself"; the fields have the file's widths
+abbrev pub ReadsBack : Type 0
+ReadsBack =
+    (h : Network) (d : Lists) (room written : List ℕ) (bytes : ℕ) → Promise writeEntry (record { net = h; lists = d }) room (long.Length bytes) written
+    → (before after : Lists) (h′ : Network) → Promise readEntry (take bytes written) before (read.Read h′) after
+    → (h′ ≡ h) × SameLists h after d
+
+-- ---- a set
+
+-- from u to w by hops that pass the test
+pub data Walk (E : ℕ → ℕ → Bool) : ℕ → ℕ → Type 0 where
+  stay : {u : ℕ} → Walk E u u
+  go : {u w z : ℕ} → Walk E u w → E w z ≡ true → Walk E u z
+
+-- two different numbers pass the test
+pub record Two (p : ℕ → Bool) : Type 0 where
+  pub one : ℕ
+  pub other : ℕ
+  pub apart : one ≡ other → ⊥
+  pub one-passes : p one ≡ true
+  pub other-passes : p other ≡ true
+
+-- the rules of a backup topology: "The backbone is non-empty and connected by normal links. Each isolated node has at least two restricted links"
+pub record Sound (S : Set) (i : ℕ) : Type 0 where
+  pub some : (v : ℕ) × (backbone S i v ≡ true)
+  pub joined : (u w : ℕ) → backbone S i u ≡ true → backbone S i w ≡ true → Walk (normalHop S i) u w
+  pub two : (v : ℕ) → v < S .net .n → isolated S i v ≡ true → Two (λ w. neighbours S v w && backbone S i w)
+
+-- a set that the check accepts
+pub record AcceptedSet (S : Set) : Type 0 where
+  pub rules : MeetsRules S
+  pub topologies : 1 ≤ S .net .k
+  pub sound : (i : ℕ) → 1 ≤ i → i ≤ S .net .k → Sound S i
+
+abbrev pub CheckedExactly : Type 0
+CheckedExactly = (s : List ℕ) → Bytes s → (check s ≡ Accepted) ↔ ((S : Set) × AcceptedSet S × (encode S ≡ s))
+
+-- ---- "Every next hop lies on a path of least total weight, ties to the lower number."
+
+abbrev pub LeastDistances : Type 0
+LeastDistances =
+    (S : Set) → AcceptedSet S → (i u t : ℕ) → i ≤ S .net .k → u < S .net .n → t < S .net .n → LeastTotal S i u t (distance S i u t)
+
+pub record NextHopIs (S : Set) (i u t w : ℕ) : Type 0 where
+  pub node : w < S .net .n
+  pub over : usable S i u w ≡ true
+  -- the rest of a path whose total with this hop is the least
+  pub rest : ℕ
+  pub path : Path S i t w rest
+  pub lies : LeastTotal S i u t (hopWeight S i u w + rest)
+  -- no lower-numbered neighbour lies on such a path
+  pub lower : (x y : ℕ) → x < w → usable S i u x ≡ true → Path S i t x y → LeastTotal S i u t (hopWeight S i u x + y) → ⊥
+
+abbrev pub LeastNextHops : Type 0
+LeastNextHops =
+    (S : Set) → AcceptedSet S → (i u t : ℕ) → i ≤ S .net .k → u < S .net .n → t < S .net .n → (u ≡ t → ⊥) → NextHopIs S i u t (nextHop S i u t)
+
+pub record AlternateIs (S : Set) (u v w : ℕ) : Type 0 where
+  pub chosen : candidate S u v w ≡ true
+  pub nearest : (x : ℕ) → x < S .net .n → candidate S u v x ≡ true → distance S (home S u) w v ≤ distance S (home S u) x v
+  pub lower : (x : ℕ) → x < w → candidate S u v x ≡ true → distance S (home S u) w v < distance S (home S u) x v
+
+abbrev pub NearestAlternates : Type 0
+NearestAlternates =
+    (S : Set) → AcceptedSet S → (u v : ℕ) → u < S .net .n → v < S .net .n → neighbours S u v ≡ true → (home S u ≡ home S v → ⊥)
+    → AlternateIs S u v (alternate S u v)
+
+pub record Demand2 : Type 0 where
+  pub accepted-exactly : AcceptedExactly
+  pub one-set : OneSet
+  pub longest-file : LongestFile
+  pub same-bytes : SameBytes
+  pub reads-back : ReadsBack
+  pub checked-exactly : CheckedExactly
+  pub least-distances : LeastDistances
+  pub least-next-hops : LeastNextHops
+  pub nearest-alternates : NearestAlternates
+
+-- ==== Demand 3. "For every accepted set, any one failed link or node, any source and destination that are not the failed node: delivered by the
+-- forwarding rule in at most 2n - 3 hops, at most one change of topology, crossing nothing failed."
+
+-- nothing, one link, or nodes that share one home
+abbrev pub Tolerated : Set → Fault → Type 0
+Tolerated S nothing = Unit {0}
+Tolerated S (link l) = Unit {0}
+Tolerated S (nodes p) = (i : ℕ) × ((v : ℕ) → v < S .net .n → p v ≡ true → home S v ≡ i)
+
+-- each hop of the trail u, l is one that R allows
+abbrev pub EachHop : (ℕ → ℕ → Type 0) → ℕ → List ℕ → Type 0
+EachHop R u [] = Unit {0}
+EachHop R u (w ∷ l) = R u w × EachHop R w l
+
+-- what holds of a run whatever is down: it ends; at most 2n - 3 hops; one change of topology; each hop over a link of the graph that is up
+pub record Bounded (S : Set) (on : ℕ → ℕ → Bool) (source : ℕ) (r : Run) : Type 0 where
+  pub over : r .outcome ≡ ended.UnderWay → ⊥
+  pub few : hops r ≤ mostHops (S .net)
+  pub once : r .changes ≤ 1
+  pub crossed : EachHop (λ u w. (neighbours S u w ≡ true) × (on u w ≡ true)) source (r .visited)
+
+abbrev pub AlwaysBounded : Type 0
+AlwaysBounded =
+    (S : Set) → AcceptedSet S → (on : ℕ → ℕ → Bool) (u t : ℕ) → u < S .net .n → t < S .net .n
+    → Bounded S on u (run S (tablesOf S) on (mostHops (S .net)) (packet u t 0))
+
+pub record DeliveredBy (S : Set) (f : Fault) (source destination : ℕ) (r : Run) : Type 0 where
+  pub outcome : r .outcome ≡ ended.Delivered
+  pub place : r .place ≡ destination
+  pub bounded : Bounded S (up S f) source r
+
+abbrev pub Delivery : Type 0
+Delivery =
+    (S : Set) → AcceptedSet S → (f : Fault) → Tolerated S f → (source destination : ℕ) → source < S .net .n → destination < S .net .n
+    → failed f source ≡ false → failed f destination ≡ false → DeliveredBy S f source destination (runUnder S f source destination)
+
+-- "A packet for the failed node, from another source, ends dropped."
+abbrev pub LostWithNode : Type 0
+LostWithNode =
+    (S : Set) → AcceptedSet S → (f : Fault) → Tolerated S f → (source destination : ℕ) → source < S .net .n → destination < S .net .n
+    → failed f source ≡ false → failed f destination ≡ true → runUnder S f source destination .outcome ≡ ended.Dropped
+
+-- the move of a step is over a link that is up, and usable in the topology that the packet is in then
+abbrev pub MovesOnUsable : Type 0
+MovesOnUsable =
+    (S : Set) → AcceptedSet S → (on : ℕ → ℕ → Bool) (p q : Packet) (kind : Kind) → p .place < S .net .n → p .destination < S .net .n → p .topology ≤ S .net .k
+    → step S (tablesOf S) on p ≡ Moved q kind → (on (p .place) (q .place) ≡ true) × (usable S (q .topology) (p .place) (q .place) ≡ true)
+
+-- demand 3 of what the entry `run` returns
+abbrev pub DeliveredByRun : Type 0
+DeliveredByRun =
+    (i : RunInput) (before after : RunLent) (r : RunAnswer) → Bytes (i .file) → Promise runEntry i before r after
+    → runEntry .verdict i before ≡ Accepted → failed (faultOf (i .failure)) (i .destination) ≡ false
+    → (h topology : ℕ) × (kind : Kind)
+    × (r ≡ ran.Ended (record { outcome = ended.Delivered; hops = h; topology = topology; kind = kind }))
+    × (h ≤ mostHops (headerOf (i .file)))
+    × (visited : List ℕ)
+    × (length visited ≡ h)
+    × EachHop (λ u w. (neighbours (setOf (i .file)) u w ≡ true) × (up (setOf (i .file)) (faultOf (i .failure)) u w ≡ true)) (i .source) visited
+    × (take (suc h) (after .trail) ≡ i .source ∷ visited)
+
+-- each line of the report is what the run does: the detecting node's step is the run's first hop and its one change of topology
+pub record LineIsRun (S : Set) (u t : ℕ) (r : Run) : Type 0 where
+  pub neighbour : ℕ
+  pub rest : List ℕ
+  pub moved : detection S u t ≡ Moved (packet neighbour t (r .topology)) (r .kind)
+  pub visited : r .visited ≡ neighbour ∷ rest
+  pub changed : r .changes ≡ 1
+
+abbrev pub LinesAreRuns : Type 0
+LinesAreRuns =
+    (S : Set) → AcceptedSet S → (u t : ℕ) → u < S .net .n → t < S .net .n → (u ≡ t → ⊥)
+    → LineIsRun S u t (runUnder S (link (detectedLink S u t)) u t)
+
+-- ---- "Our builder, allowed n topologies, succeeds exactly when removing any one router leaves the others connected."
+
+-- u and w are joined by a link, and neither is v
+unfoldable pub avoiding : Set → ℕ → ℕ → ℕ → Bool
+avoiding G v u w = neighbours G u w && (not (eqb u v) && not (eqb w v))
+
+-- removing v leaves the others connected
+abbrev pub OthersJoined : Set → ℕ → Type 0
+OthersJoined G v = (u w : ℕ) → u < G .net .n → w < G .net .n → (u ≡ v → ⊥) → (w ≡ v → ⊥) → Walk (avoiding G v) u w
+
+abbrev pub Removable : Set → Type 0
+Removable G = (v : ℕ) → v < G .net .n → OthersJoined G v
+
+abbrev pub BuiltExactly : Type 0
+BuiltExactly = (G : Set) → MeetsRules G → (fits G (G .net .n) ≡ true) ↔ Removable G
+
+-- every set that first fit gives is accepted
+abbrev pub BuiltAccepted : Type 0
+BuiltAccepted = (G : Set) (cap : ℕ) → MeetsRules G → cap ≤ 32 → fits G cap ≡ true → AcceptedSet (built G cap)
+
+-- what the entry `build` answers, given n as its cap and room: a length exactly when any one node can be removed
+abbrev pub BuildAnswers : Type 0
+BuildAnswers =
+    (i : BuildInput) (room after : List ℕ) (r : LengthAnswer) → Bytes (i .file) → judge (i .file) ≡ Accepted → headerOf (i .file) .k ≡ 0
+    → i .cap ≡ headerOf (i .file) .n → 9192 ≤ length room → Promise buildEntry i room r after
+    → ((bytes : ℕ) × (r ≡ long.Length bytes)) ↔ Removable (setOf (i .file))
+
+pub record Demand3 : Type 0 where
+  pub bounded : AlwaysBounded
+  pub delivery : Delivery
+  pub lost-with-node : LostWithNode
+  pub moves-on-usable : MovesOnUsable
+  pub delivered-by-run : DeliveredByRun
+  pub lines-are-runs : LinesAreRuns
+  pub built-exactly : BuiltExactly
+  pub built-accepted : BuiltAccepted
+  pub build-answers : BuildAnswers
