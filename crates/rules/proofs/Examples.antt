@@ -11,8 +11,8 @@ use Rattle.rules.specs.Judgement.{refuse, andThen, inTurn, needMark, hea
 use Rattle.rules.specs.Report.{digits, decimal, letter, headerLine, packetOf, kindOf, detectedLink, detection, runUnder, backupHops, plainHops, extraHops, detectionLine, detectionLines, lastLine, reportText, refusalLine, printed}
 use Rattle.rules.specs.Answers.{tell, verdictTells, headerValues, readTells, lengthTells, outcomeValue, packetValues, stepValues, stepTells, journeyValues, runTells}
 use Rattle.rules.specs.Entries.{onAccept, needLists, listsWith, readEntry, setWith, writeEntry, checkEntry, builtFrom, buildEntry, tablesEntry, lookupsOf, stepOf, stepEntry, runOf, runValues, runEntry, reportEntry}
-use Rattle.rules.specs.Examples.{triangle, ring, fullFour, triangleSet, ringSet, fullFourSet, rowOf, wrote, builtRow, checkedRow, ranRow, computed, expected, ExamplesHold}
+use Rattle.rules.specs.Examples.{triangle, ring, fullFour, triangleSet, ringSet, fullFourSet, rowOf, builtRow, checkedRow, ranRow, computed, expected, ExamplesHold}
 
 pub examples-hold : ExamplesHold
-unfolding if_then_else_ need all any count lowest least upTo flat laid needCounts restrictedWeight rowWeights rowLength homeRecords linkPlace homePlace rowPlace fileLength tablesLength mostHops trailRoom reportRoom longest bytes2 headerBytes linkBytes homeBytes rowStart rowBytes encode two headerOf endA endB linkWeight homeNode homeTopology rowTopology rowWeight setOf joins linkBetween neighbours home isolated backbone word isolatedWord classBy class weightFits rowInForce weightBy weightFrom hopWeight usable normalHop spread reached connected restrictedLinks twoLinks topologyNumber longer totals distances distance onLeastPath nextHop isRestricted candidate nearest alternate tableBytes faultOf failed up tablesOf entryPlace lentTables moveOrDrop changeTo blocked toward step alternateNumber changeNumber towardNumber lookupNumber hops trail stop firstKind changed onward afterStep run withHomes homeless admits firstTopology homesAfter firstFit fits highest onNormal filled built spared buildNumber refuse andThen inTurn needMark headerNumber after rises linkNumber homeNumber rowWeightFits rowNumber records judge needSet needGraph topologies check needFailure needPacket needCap needFit sourceNumber needSource needRoom digits decimal letter headerLine packetOf kindOf detectedLink detection runUnder backupHops plainHops extraHops detectionLine detectionLines lastLine reportText refusalLine printed tell verdictTells headerValues readTells lengthTells outcomeValue packetValues stepValues stepTells journeyValues runTells onAccept needLists listsWith readEntry setWith writeEntry checkEntry builtFrom buildEntry tablesEntry lookupsOf stepOf stepEntry runOf runValues runEntry reportEntry triangle ring fullFour triangleSet ringSet fullFourSet rowOf wrote builtRow checkedRow ranRow computed expected
+unfolding if_then_else_ need all any count lowest least upTo flat laid needCounts restrictedWeight rowWeights rowLength homeRecords linkPlace homePlace rowPlace fileLength tablesLength mostHops trailRoom reportRoom longest bytes2 headerBytes linkBytes homeBytes rowStart rowBytes encode two headerOf endA endB linkWeight homeNode homeTopology rowTopology rowWeight setOf joins linkBetween neighbours home isolated backbone word isolatedWord classBy class weightFits rowInForce weightBy weightFrom hopWeight usable normalHop spread reached connected restrictedLinks twoLinks topologyNumber longer totals distances distance onLeastPath nextHop isRestricted candidate nearest alternate tableBytes faultOf failed up tablesOf entryPlace lentTables moveOrDrop changeTo blocked toward step alternateNumber changeNumber towardNumber lookupNumber hops trail stop firstKind changed onward afterStep run withHomes homeless admits firstTopology homesAfter firstFit fits highest onNormal filled built spared buildNumber refuse andThen inTurn needMark headerNumber after rises linkNumber homeNumber rowWeightFits rowNumber records judge needSet needGraph topologies check needFailure needPacket needCap needFit sourceNumber needSource needRoom digits decimal letter headerLine packetOf kindOf detectedLink detection runUnder backupHops plainHops extraHops detectionLine detectionLines lastLine reportText refusalLine printed tell verdictTells headerValues readTells lengthTells outcomeValue packetValues stepValues stepTells journeyValues runTells onAccept needLists listsWith readEntry setWith writeEntry checkEntry builtFrom buildEntry tablesEntry lookupsOf stepOf stepEntry runOf runValues runEntry reportEntry triangle ring fullFour triangleSet ringSet fullFourSet rowOf builtRow checkedRow ranRow computed expected
 examples-hold = refl

@@ -1,3 +1,6 @@
 -- Laws of the definitions, and the theorems.
 pub mod Choices
+pub mod Numbers
+pub mod Rows
+pub mod Determined
 pub mod Examples

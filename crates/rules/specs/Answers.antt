@@ -1,4 +1,4 @@
--- The numbers and values behind each case of an answer. An accepted call has number 0, place 0 and its values; a refused one its number and place.
+-- The numbers and values of 01 behind each case of an answer.
 use mathlib.Core.List.{List, [], _∷_}
 use Prim.Native.Nat.{ℕ, zero, suc}
 use Rattle.rules.specs.declared.Network.{Network}
@@ -21,18 +21,12 @@ use Rattle.rules.specs.declared.RunAnswer.{RunAnswer}
 use Rattle.rules.specs.declared.RunAnswer.the-variants as ran
 use Rattle.rules.specs.Report.{letter}
 
-pub record Told : Type 0 where
-  pub number : ℕ
-  pub place : ℕ
-  pub values : List ℕ
+-- what a call tells: the values of an accepted one, or a refusal's number and place
+pub data Told : Type 0 where
+  accepted : List ℕ → Told
+  refused : ℕ → ℕ → Told
 
-abbrev pub accepted : List ℕ → Told
-accepted values = record { number = 0; place = 0; values = values }
-
-abbrev pub refused : ℕ → ℕ → Told
-refused number place = record { number = number; place = place; values = [] }
-
--- what a call tells: the refusal that stands, or else these values
+-- the refusal that stands, or else these values
 unfoldable pub tell : Verdict → List ℕ → Told
 tell Accepted values = accepted values
 tell (Refused number place) values = refused number place

@@ -28,7 +28,7 @@ use Rattle.rules.specs.Forwarding.{Fault, nothing, link, nodes, faultOf,
 use Rattle.rules.specs.Building.{fits, built}
 use Rattle.rules.specs.Judgement.{judge, check}
 use Rattle.rules.specs.Report.{detectedLink, detection, runUnder}
-use Rattle.rules.specs.Answers.{Told, refused}
+use Rattle.rules.specs.Answers.{refused}
 use Rattle.rules.specs.Entries.{Entry, Promise, Lists, lists, readEntry, WriteInput, writeEntry, checkEntry, BuildInput, buildEntry, tablesEntry, stepEntry, RunInput, RunLent, runEntry, reportEntry}
 
 -- ==== Demand 1. "Every entry takes every input. What is outside the written limits is refused by number and place, nothing lent is altered, no caller

@@ -1,20 +1,17 @@
 -- 01, 'Examples': P1 to P12, through the entries' definitions.
 use mathlib.Core.Path.{_≡_}
-use mathlib.Core.Bool.{Bool, true, false}
 use mathlib.Core.List.{List, [], _∷_, _++_}
-use Prim.Native.Nat.{ℕ, zero, suc, _+_, _*_}
-use lib.ListN.{length, replicate}
+use Prim.Native.Nat.{ℕ}
+use lib.ListN.{replicate}
 use Rattle.rules.specs.declared.Network.{Network}
 use Rattle.rules.specs.declared.Failure.{Failure}
 use Rattle.rules.specs.declared.Failure.the-variants.{Nothing, Link, Node}
-use Rattle.rules.specs.declared.Verdict.{Verdict}
-use Rattle.rules.specs.declared.Verdict.the-variants.{Accepted, Refused}
-use Rattle.rules.specs.Limits.{largest, fileLength, tablesLength, trailRoom}
-use Rattle.rules.specs.File.{Set, encode, setOf}
+use Rattle.rules.specs.Limits.{tablesLength, trailRoom}
+use Rattle.rules.specs.File.{Set, encode}
 use Rattle.rules.specs.Building.{filled}
 use Rattle.rules.specs.Forwarding.{trail}
-use Rattle.rules.specs.Answers.{Told, tell}
-use Rattle.rules.specs.Entries.{Entry, buildEntry, checkEntry, runEntry, builtFrom, runOf, BuildInput, RunInput, RunLent}
+use Rattle.rules.specs.Answers.{Told, accepted, refused, tell}
+use Rattle.rules.specs.Entries.{buildEntry, checkEntry, runEntry, builtFrom, runOf, BuildInput, RunInput, RunLent}
 
 -- a graph alone: its header's counts, its links' ends and weights
 abbrev pub graph : ℕ → ℕ → ℕ → List ℕ → List ℕ → List ℕ → Set
@@ -42,23 +39,18 @@ ringSet = filled ring (1 ∷ 2 ∷ 3 ∷ 4 ∷ [])
 unfoldable pub fullFourSet : Set
 fullFourSet = filled fullFour (1 ∷ 1 ∷ 2 ∷ 2 ∷ [])
 
--- ---- a row of the table: number and place, then the values of an accepted call and what it wrote
+-- ---- a row of the table: a refusal's number and place; or 0, 0, the values of an accepted call and what it wrote
 
 unfoldable pub rowOf : Told → List ℕ → List ℕ
-rowOf t more = t .number ∷ t .place ∷ (t .values ++ more)
+rowOf (accepted values) wrote = 0 ∷ 0 ∷ (values ++ wrote)
+rowOf (refused number place) wrote = number ∷ place ∷ []
 
--- what an accepted call wrote, and nothing for a refused one
-unfoldable pub wrote : Verdict → List ℕ → List ℕ
-wrote Accepted l = l
-wrote (Refused number place) l = []
-
--- the builder, into room for the longest file: number, place, length; then k and the homes of the set built
+-- the builder, into room that is long enough: number, place, length; then k and the homes of the set built
 unfoldable pub builtRow : Set → ℕ → List ℕ
 builtRow G cap =
     let i : BuildInput = record { file = encode G; cap = cap } in
     let room : List ℕ = replicate 100 0 in
-    let v : Verdict = buildEntry .verdict i room in
-    rowOf (tell v (buildEntry .gives i room)) (wrote v (builtFrom i .net .k ∷ builtFrom i .homes))
+    rowOf (tell (buildEntry .verdict i room) (buildEntry .gives i room)) (builtFrom i .net .k ∷ builtFrom i .homes)
 
 -- the check: number, place
 unfoldable pub checkedRow : Set → List ℕ
@@ -69,8 +61,7 @@ unfoldable pub ranRow : Set → ℕ → ℕ → Failure → List ℕ
 ranRow S source destination failure =
     let i : RunInput = record { file = encode S; source = source; destination = destination; failure = failure } in
     let room : RunLent = record { tables = replicate (tablesLength (S .net)) 0; trail = replicate (trailRoom (S .net)) 0 } in
-    let v : Verdict = runEntry .verdict i room in
-    rowOf (tell v (runEntry .gives i room)) (wrote v (trail source (runOf i)))
+    rowOf (tell (runEntry .verdict i room) (runEntry .gives i room)) (trail source (runOf i))
 
 -- ---- the table
 
