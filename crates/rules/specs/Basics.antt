@@ -5,7 +5,6 @@ use Prim.Native.Nat.{ℕ, zero, suc, _+_, _*_, min}
 use lib.ListN.{length, getD, drop}
 
 infix 5 if_then_else_
-
 -- x where the test holds, y where it does not
 unfoldable pub if_then_else_ {ℓ} : {A : Type ℓ} → Bool → A → A → A
 if true then x else y = x

@@ -22,22 +22,33 @@ pub struct Longest {
 
 impl Network {
     pub const MIN_NODES: u8 = 3;
+
     pub const MAX_NODES: u8 = 32;
+
     pub const MIN_LINKS: u16 = 3;
+
     pub const MAX_LINKS: u16 = 128;
+
     pub const MAX_TOPOLOGIES: u8 = 32;
+
     pub const MIN_WMAX: u16 = 1;
+
     pub const MAX_CAP: u8 = 32;
 
     // The lengths of the file's records; a row is ROW_HEAD bytes and then WEIGHT bytes for each link.
     pub const HEADER: usize = 8;
+
     pub const LINK: usize = 6;
+
     pub const HOME: usize = 4;
+
     pub const ROW_HEAD: usize = 3;
+
     pub const WEIGHT: usize = 2;
 
-    pub const LONGEST_ROW: usize =
-        Network::ROW_HEAD + Network::WEIGHT * (Network::MAX_LINKS as usize);
+    pub const LONGEST_ROW: usize = Network::ROW_HEAD
+        + Network::WEIGHT * (Network::MAX_LINKS as usize);
+
     pub const LONGEST_FILE: usize = Network::HEADER
         + Network::LINK * (Network::MAX_LINKS as usize)
         + Network::HOME * (Network::MAX_NODES as usize)
@@ -53,12 +64,13 @@ impl Network {
 
     // A line of a report has seven numbers of at most two digits, a letter, seven spaces and a newline.
     pub const REPORT_HEAD: usize = 44;
+
     pub const REPORT_LINE: usize = 23;
+
     pub const REPORT_LAST: usize = 15;
+
     pub const LONGEST_REPORT: usize = Network::REPORT_HEAD
-        + (Network::MAX_NODES as usize)
-            * (Network::MAX_NODES as usize - 1)
-            * Network::REPORT_LINE
+        + (Network::MAX_NODES as usize) * (Network::MAX_NODES as usize - 1) * Network::REPORT_LINE
         + Network::REPORT_LAST;
 
     // A header with these counts; whether they are within their limits is the judge's to say.
