@@ -3,4 +3,5 @@ pub mod Choices
 pub mod Numbers
 pub mod Rows
 pub mod Determined
+pub mod Order
 pub mod Examples
