@@ -170,13 +170,13 @@ onward v kind r =
       topology = r .topology;
     }
 
--- what a step leads to: the end, or the run from where it moved to
-unfoldable pub afterStep : Step → (Packet → Run) → Run
-afterStep (Delivered p) rest = stop p ended.Delivered
-afterStep (Dropped p) rest = stop p ended.Dropped
-afterStep (Moved p kind) rest = onward (p .place) kind (rest p)
+-- what a step leads to: the end, or what follows its move
+unfoldable pub afterStep : Step → (Packet → Kind → Run) → Run
+afterStep (Delivered p) moved = stop p ended.Delivered
+afterStep (Dropped p) moved = stop p ended.Dropped
+afterStep (Moved p kind) moved = moved p kind
 
--- steps until the packet is delivered or dropped, of at most so many hops
+-- steps until the packet is delivered or dropped, of at most so many hops; one that would move once more is under way still
 unfoldable pub run : Set → Tables → (ℕ → ℕ → Bool) → ℕ → Packet → Run
-run S tables on zero p = afterStep (step S tables on p) (λ q. stop p ended.UnderWay)
-run S tables on (suc h) p = afterStep (step S tables on p) (λ q. run S tables on h q)
+run S tables on zero p = afterStep (step S tables on p) (λ q kind. stop p ended.UnderWay)
+run S tables on (suc h) p = afterStep (step S tables on p) (λ q kind. onward (q .place) kind (run S tables on h q))
