@@ -2,5 +2,6 @@
 pub mod Choices
 pub mod Numbers
 pub mod Rows
+pub mod Encoded
 pub mod Determined
 pub mod Examples
