@@ -3,5 +3,7 @@ pub mod Choices
 pub mod Numbers
 pub mod Rows
 pub mod Encoded
+pub mod Held
+pub mod Records
 pub mod Determined
 pub mod Examples
