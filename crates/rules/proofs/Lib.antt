@@ -5,5 +5,8 @@ pub mod Rows
 pub mod Encoded
 pub mod Held
 pub mod Records
+pub mod Fronts
+pub mod Again
+pub mod Accepted
 pub mod Determined
 pub mod Examples
