@@ -1,7 +1,6 @@
 -- Demand 2, files: bytes are accepted exactly when they are the encoding of a set that meets the rules, and of one only.
 use mathlib.Core.Path.{_≡_, refl, sym, ap, ap₂, subst, _∙_}
-use mathlib.Core.Logic.{_↔_, _⊎_, inl, inr}
-use mathlib.Core.Bool.{Bool, true, false}
+use mathlib.Core.Bool.{true}
 use mathlib.Core.List.{List}
 use Prim.Native.Nat.{ℕ, zero, suc, _+_, _*_, _≤_, _<_}
 use native.Mathlib.Nat.{mul-le-mul}
@@ -9,16 +8,15 @@ use native.Mathlib.Omega.{arith}
 use lib.Dec.{eqb}
 use lib.ListN.{length, getD}
 use Rattle.rules.specs.declared.Network.{Network}
-use Rattle.rules.specs.declared.Verdict.{Verdict}
-use Rattle.rules.specs.declared.Verdict.the-variants.{Accepted, Refused}
+use Rattle.rules.specs.declared.Verdict.the-variants.{Accepted}
 use Rattle.rules.specs.Limits.{homeRecords, rowWeights, rowLength, linkPlace, homePlace, rowPlace, fileLength}
-use Rattle.rules.specs.File.{Set, encode, rowStart, headerOf, endA, endB, linkWeight, homeTopology, rowWeight, setOf}
-use Rattle.rules.specs.Isolation.{home, isolated, classBy, class, Class, Normal, weightFits, rowInForce}
-use Rattle.rules.specs.Judgement.{judge, after, rises, rowWeightFits}
+use Rattle.rules.specs.File.{Set, encode, headerOf, endA, endB, homeTopology, setOf}
+use Rattle.rules.specs.Isolation.{home, isolated, classBy, class, Class, weightFits, rowInForce}
+use Rattle.rules.specs.Judgement.{judge, rises, rowWeightFits}
 use Rattle.rules.specs.Demands.{WithinLimits, MeetsRules, Bytes, AcceptedExactly, OneSet, LongestFile}
 use Rattle.rules.proofs.Encoded.{encode-long, header-back, header-marked, link-marked, endA-back, endB-back, linkWeight-back, home-marked, homeNode-back, homeTopology-back, row-marked, rowTopology-back, rowWeight-back}
 use Rattle.rules.proofs.Held.{homes-all, homes-most, isolated-by-home, row-entry, a-held, b-held, weight-held, home-held, row-held, class-held, a-long, b-long, weights-long, homes-long, rows-long}
-use Rattle.rules.proofs.Records.{After, after-is, after-of, fits-normal, fits-other, fits-of, HeaderMeets, LinkMeets, HomeMeets, RowMeets, FileMeets, file-meets, file-accepted}
+use Rattle.rules.proofs.Records.{After, after-is, after-of, fits-normal, fits-other, fits-of, LinkMeets, HomeMeets, RowMeets, FileMeets, file-meets, file-accepted}
 use Rattle.rules.proofs.Fronts.{set-of-encode, within-all}
 use Rattle.rules.proofs.Again.{encode-again}
 

@@ -2,14 +2,14 @@
 use mathlib.Core.Path.{_≡_, refl, sym, ap, ap₂, _∙_}
 use mathlib.Core.Bool.{Bool, true, false, _&&_}
 use mathlib.Core.List.{List}
-use Prim.Native.Nat.{ℕ, zero, suc, _+_, _-_, _*_, _≤_, _<_}
+use Prim.Native.Nat.{ℕ, suc, _+_, _-_, _*_, _≤_, _<_}
 use native.Mathlib.Omega.{arith}
-use lib.Dec.{eqb, leb}
+use lib.Dec.{eqb}
 use lib.ListN.{length, getD, take, drop}
 use lib.Seq.{getD-take, getD-drop}
 use borrow.Author.Tests.{le-leb, ne-eqb}
 use Rattle.rules.specs.declared.Network.{Network}
-use Rattle.rules.specs.Basics.{if_then_else_, need, upTo, flat}
+use Rattle.rules.specs.Basics.{if_then_else_, need, upTo}
 use Rattle.rules.specs.Limits.{homeRecords, rowWeights}
 use Rattle.rules.specs.File.{Set, rowStart, headerOf, endA, endB, linkWeight, homeTopology, rowWeight, setOf}
 use Rattle.rules.specs.Isolation.{home, isolated, classBy, class, rowInForce}
@@ -81,7 +81,7 @@ module _ (s : List ℕ) where
   -- the class of a link whose ends have home records
   pub class-held : (j l : ℕ) → l < headerOf s .m → endA s l < homeRecords (headerOf s) → endB s l < homeRecords (headerOf s)
       → class (setOf s) (suc j) l
-          ≡ classBy (eqb (homeTopology s (headerOf s) (endA s l)) (suc j)) (eqb (homeTopology s (headerOf s) (endB s l)) (suc j))
+      ≡ classBy (eqb (homeTopology s (headerOf s) (endA s l)) (suc j)) (eqb (homeTopology s (headerOf s) (endB s l)) (suc j))
   unfolding class
   class-held j l h p q =
       ap₂ classBy (ap (isolated (setOf s) (suc j)) (a-held l h) ∙ isolated-by-home (setOf s) j (endA s l) ∙ ap (λ (x : ℕ). eqb x (suc j)) (home-held (endA s l) p))

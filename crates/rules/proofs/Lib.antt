@@ -8,5 +8,6 @@ pub mod Records
 pub mod Fronts
 pub mod Again
 pub mod Accepted
+pub mod Same
 pub mod Determined
 pub mod Examples
