@@ -12,3 +12,11 @@ pub mod Same
 pub mod Determined
 pub mod Order
 pub mod Examples
+pub mod Rounds
+pub mod Links
+pub mod Distances
+pub mod Homes
+pub mod Degree
+pub mod Reach
+pub mod Transit
+pub mod NextHops
