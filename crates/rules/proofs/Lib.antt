@@ -5,3 +5,5 @@ pub mod Rows
 pub mod Determined
 pub mod Order
 pub mod Examples
+pub mod Walks
+pub mod Connected
