@@ -7,3 +7,4 @@ pub mod Order
 pub mod Examples
 pub mod Walks
 pub mod Connected
+pub mod Sound
