@@ -23,6 +23,10 @@ use Rattle.forwarding.specs.Hop.{on, tablesAt, kindBy, onwardNumber, ste
 
 -- ---- the tables
 
+pub entry-is : (tables : List ℕ) (h : Network) (i u t a b q x : ℕ) → q ≡ h .n * h .n → a ≡ i * q → b ≡ u * h .n → x ≡ getD tables (a + (b + t)) 0 → x ≡ getD tables (entryPlace h i u t) 0
+unfolding entryPlace
+entry-is tables h i u t a b q x d e g z = z ∙ ap (λ (k : ℕ). getD tables k 0) (rw (e, g, d))
+
 module _ (s tables : List ℕ) (h : Network) (n : h ≡ headerOf s) where
   next-is : (i u t x : ℕ) → x ≡ getD tables (entryPlace h i u t) 0 → x ≡ tablesAt s tables .next i u t
   unfolding lentTables
@@ -98,11 +102,18 @@ module _ (s tables : List ℕ) (f : Failure) (p : Packet) where
       q ∙ ap (toward (setOf s) (tablesAt s tables) (on s f) p) (next-is s tables h n (p .topology) (p .place) (p .destination) v d)
       ∙ sym (if-no (eqb (p .place) (p .destination)) _ _ (ne-eqb (p .place) (p .destination) e))
 
-pub ruleset hop = (move-up, move-down, kind-same, kind-other, change-back, change-there, blocked-first, blocked-later, toward-up, toward-down, step-there, step-onward)
+pub ruleset hop = (entry-is, move-up, move-down, kind-same, kind-other, change-back, change-there, blocked-first, blocked-later, toward-up, toward-down, step-there, step-onward)
 
 -- ---- 15
 
-module _ (s tables : List ℕ) (f : Failure) (p : Packet) where
+-- the test b as a call gave it
+pub found-yes : (t b : Bool) (number rest : ℕ) → t ≡ b → t ≡ true → rest ≡ need b number rest
+found-yes t b number rest e d = need-yes b number rest rest (sym e ∙ d) refl
+
+pub found-no : (t b : Bool) (number rest : ℕ) → t ≡ b → t ≡ false → number ≡ need b number rest
+found-no t b number rest e d = need-no b number rest number (sym e ∙ d) refl
+
+module _ (s tables : List ℕ) (p : Packet) where
   pub alternate-back : (h : Network) (v w x r : ℕ) → h ≡ headerOf s → w ≡ v → x ≡ getD tables (entryPlace h (h .k + 1) (p .place) v) 0 → r ≡ need (neighbours (setOf s) (p .place) x) 15 0
       → r ≡ alternateNumber (setOf s) (tablesAt s tables) p v w
   unfolding alternateNumber
@@ -117,6 +128,7 @@ module _ (s tables : List ℕ) (f : Failure) (p : Packet) where
   unfolding changeNumber
   change-is v w x r d q = q ∙ ap (need (neighbours (setOf s) (p .place) w) 15) d
 
+module _ (s tables : List ℕ) (f : Failure) (p : Packet) where
   pub onward-up : (v : ℕ) (t : Bool) → t ≡ on s f (p .place) v → t ≡ true → 0 ≡ onwardNumber s tables f p v
   unfolding onwardNumber
   onward-up v t e d = sym (if-yes (on s f (p .place) v || not (eqb (p .topology) 0)) _ _ (rw (sym e ∙ d)))
@@ -145,4 +157,4 @@ module _ (s tables : List ℕ) (f : Failure) (p : Packet) where
       ∙ ap (towardNumber (setOf s) (tablesAt s tables) (on s f) p) (next-is s tables h n (p .topology) (p .place) (p .destination) v d)
       ∙ sym (if-no (eqb (p .place) (p .destination)) _ _ (ne-eqb (p .place) (p .destination) e))
 
-pub ruleset lookups = (alternate-back, alternate-there, change-is, onward-up, onward-later, onward-first, lookup-there, lookup-onward, need-yes, need-no)
+pub ruleset lookups = (alternate-back, alternate-there, change-is, onward-up, onward-later, onward-first, lookup-there, lookup-onward, found-yes, found-no)

@@ -1,0 +1,18 @@
+use borrow.Author.Needs.{needs}
+use Rattle.rules.specs.Building.{fits}
+use Rattle.forwarding.proofs.Graph.{graph}
+use Rattle.forwarding.proofs.hop.square.Statement.{statement}
+use Rattle.forwarding.proofs.hop.square.Tie as tie
+use Rattle.forwarding.proofs.hop.square.Reads as reads
+use Rattle.forwarding.proofs.hop.square.Lts as lts
+
+-- src/hop.rt:124:5
+mul-result : tie.Need-mul-result
+mul-result c = record { fits = search graph }
+
+-- src/hop.rt:121:1
+returns : tie.Need-returns
+returns c = (search needs, search graph)
+
+pub square-spec : {M : Type 1} → statement M
+square-spec = tie.close (tie.spec mul-result returns)

@@ -1,0 +1,18 @@
+use borrow.Author.Needs.{needs}
+use Rattle.rules.specs.Building.{fits}
+use Rattle.forwarding.proofs.Graph.{graph}
+use Rattle.forwarding.proofs.hop.times.Statement.{statement}
+use Rattle.forwarding.proofs.hop.times.Tie as tie
+use Rattle.forwarding.proofs.hop.times.Reads as reads
+use Rattle.forwarding.proofs.hop.times.Lts as lts
+
+-- src/hop.rt:117:5
+mul-result : tie.Need-mul-result
+mul-result c = record { fits = search graph }
+
+-- src/hop.rt:113:1
+returns : tie.Need-returns
+returns c = (search needs, search graph)
+
+pub times-spec : {M : Type 1} → statement M
+times-spec = tie.close (tie.spec mul-result returns)
