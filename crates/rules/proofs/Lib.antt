@@ -2,6 +2,9 @@
 pub mod Choices
 pub mod Numbers
 pub mod Rows
+pub mod Encoded
+pub mod Held
+pub mod Records
 pub mod Determined
 pub mod Order
 pub mod Examples
