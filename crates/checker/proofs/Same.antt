@@ -20,7 +20,7 @@ use Rattle.words.specs.Word.{has, both, minus, only, firsts, lowestIn}
 use Rattle.words.proofs.Members.{has-none, has-both, has-minus, has-first, has-one, has-ext, has-bound, has-word, word-fits, minus-fits, firsts-fits, word-ext}
 use Rattle.words.proofs.Tally.{ones-word, lowest-word, lowest-there}
 use Rattle.checker.specs.Topology.{backboneWord, normal, spreadWord, rounds, reachedWord, connectedBy, servedBy, allServed, numberBy}
-use Rattle.checker.proofs.Reach.{Reached, walk-in, walk-inside, spread-is, settled, reached-by, reached-is}
+use Rattle.checker.proofs.Reached.{Reached, walk-in, walk-inside, spread-is, settled, reached-by, reached-is}
 
 -- the words hold each node's neighbours
 pub record WordsOf (S : Set) (nb : List ℕ) : Type 0 where
