@@ -8,3 +8,4 @@ pub mod Examples
 pub mod Walks
 pub mod Connected
 pub mod Sound
+pub mod Removal
