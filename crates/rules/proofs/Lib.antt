@@ -9,3 +9,4 @@ pub mod Walks
 pub mod Connected
 pub mod Sound
 pub mod Removal
+pub mod FirstFit
