@@ -10,3 +10,4 @@ pub mod Connected
 pub mod Sound
 pub mod Removal
 pub mod FirstFit
+pub mod Built

@@ -1,0 +1,151 @@
+-- Every set that first fit gives is accepted: it meets the file's rules, and each of its topologies meets the rules of a topology.
+use mathlib.Core.Path.{_≡_, refl, sym, ap, subst, _∙_}
+use mathlib.Core.Bool.{Bool, true, false, _&&_}
+use mathlib.Core.List.{List}
+use Prim.Native.Nat.{ℕ, zero, suc, _+_, _-_, _*_, _≤_, _<_, max}
+use native.Mathlib.Omega.{arith}
+use lib.Dec.{eqb, leb}
+use lib.ListN.{length, getD, take, drop}
+use lib.Seq.{getD-take, getD-drop}
+use borrow.Author.Tests.{eqb-true, eqb-false, ne-eqb}
+use Rattle.rules.specs.declared.Network.{Network}
+use Rattle.rules.specs.Basics.{if_then_else_, need, upTo, flat}
+use Rattle.rules.specs.Limits.{homeRecords, rowWeights}
+use Rattle.rules.specs.File.{Set, rowStart}
+use Rattle.rules.specs.Isolation.{joins, linkBetween, neighbours, home, isolated, Class, class, Normal, rowInForce}
+use Rattle.rules.specs.Building.{withHomes, firstFit, fits, highest, onNormal, filled, built}
+use Rattle.rules.specs.Demands.{at, Sound, MeetsRules, AcceptedSet, BuiltAccepted}
+use Rattle.rules.proofs.Choices.{need-no, if-no}
+use Rattle.rules.proofs.Rows.{length-upTo, getD-upTo, length-flat, getD-flat}
+use Rattle.rules.proofs.Sound.{Fewer, fewer-isolated}
+use Rattle.rules.proofs.FirstFit.{homes-long, home-n, home-low, home-high, fitted-removable, fitted-sound}
+
+-- ---- the highest home
+
+highest-most : (homes : List ℕ) (n c : ℕ) → ((v : ℕ) → v < n → getD homes v 0 ≤ c) → highest homes n ≤ c
+unfolding highest
+highest-most homes zero c h = omega arith
+highest-most homes (suc n) c h =
+    let a = highest-most homes n c (λ v l. h v (omega arith)) in
+    let b = h n (omega arith) in
+    omega arith
+
+highest-least : (homes : List ℕ) (n v : ℕ) → v < n → getD homes v 0 ≤ highest homes n
+unfolding highest
+highest-least homes zero v l = absurd (omega arith)
+highest-least homes (suc n) v l = pick (λ h. highest-least homes n v h) (eqb v n) refl
+  where
+    pick : (v < n → getD homes v 0 ≤ highest homes n) → (t : Bool) → eqb v n ≡ t → getD homes v 0 ≤ highest homes (suc n)
+    pick r true e = rw (eqb-true v n e) (omega arith)
+    pick r false e = let ne = eqb-false v n e in let q = r (omega arith) in omega arith
+
+-- ---- rows by class
+
+on-normal : (c : Class) (w : ℕ) → c ≡ Normal → onNormal c w ≡ w
+unfolding onNormal
+on-normal Class.Normal w e = refl
+on-normal Class.Isolated w e = cc
+on-normal Class.Restricted w e = cc
+
+on-other : (c : Class) (w : ℕ) → (c ≡ Normal → ⊥) → onNormal c w ≡ 0
+unfolding onNormal
+on-other Class.Normal w h = absurd (h refl)
+on-other Class.Isolated w h = refl
+on-other Class.Restricted w h = refl
+
+module _ (G : Set) (homes : List ℕ) where
+  abbrev k : ℕ
+  k = highest homes (G .net .n)
+
+  -- the weights of the row of topology j + 1
+  row : ℕ → List ℕ
+  row j = upTo (λ l. onNormal (class (withHomes G homes) (suc j) l) (getD (G .weights) l 0)) (G .net .m)
+
+  row-long : (j : ℕ) → length (row j) ≡ G .net .m
+  unfolding row
+  row-long j = length-upTo (λ l. onNormal (class (withHomes G homes) (suc j) l) (getD (G .weights) l 0)) (G .net .m)
+
+  rows-long : length (filled G homes .rows) ≡ k * rowWeights (filled G homes .net)
+  unfolding filled row rowWeights
+  rows-long = length-flat row (G .net .m) k (λ j l. row-long j)
+
+  same-class : (i l : ℕ) → class (filled G homes) i l ≡ class (withHomes G homes) i l
+  unfolding class isolated home filled withHomes
+  same-class i l = refl
+
+  filled-row : (i l : ℕ) → 1 ≤ i → i ≤ k → l < G .net .m → at (rowInForce (filled G homes) i) l ≡ onNormal (class (filled G homes) i l) (at (G .weights) l)
+  unfolding rowInForce filled row rowWeights rowStart
+  filled-row i l one h g =
+      let back : suc (i - 1) ≡ i = omega arith in
+      ap (λ (list : List ℕ). getD list l 0) (if-no (eqb i 0) (take (G .net .m) (G .weights)) (take (G .net .m) (drop ((i - 1) * G .net .m) (flat row k))) (ne-eqb i 0 (λ z. omega arith)))
+      ∙ getD-take (G .net .m) (drop ((i - 1) * G .net .m) (flat row k)) l 0 g
+      ∙ getD-drop ((i - 1) * G .net .m) (flat row k) l 0
+      ∙ getD-flat row (G .net .m) k (i - 1) l 0 (λ y q. row-long y) (omega arith) g
+      ∙ getD-upTo (λ x. onNormal (class (withHomes G homes) (suc (i - 1)) x) (getD (G .weights) x 0)) (G .net .m) l 0 g
+      ∙ ap (λ (c : Class). onNormal c (getD (G .weights) l 0)) (ap (λ (t : ℕ). class (withHomes G homes) t l) back ∙ sym (same-class i l))
+
+  filled-fewer : (i : ℕ) → Fewer (withHomes G homes) i (filled G homes) i
+  unfolding neighbours linkBetween joins isolated home filled withHomes
+  filled-fewer i = record { nodes = refl; links = λ u w. refl; fewer = λ v l e. e }
+
+  -- homes that fill a set: as many as nodes, from 1, none above n or 32
+  pub record Homes : Type 0 where
+    pub long : length homes ≡ G .net .n
+    pub low : (v : ℕ) → v < G .net .n → 1 ≤ getD homes v 0
+    pub few : k ≤ 32
+    pub nodes : k ≤ G .net .n
+
+  -- so there is a topology, and each node has a home record
+  some : MeetsRules G → Homes → 1 ≤ k
+  some R H =
+      let three = R .limits .nodes .0 in
+      let a = H .low 0 (omega arith) in
+      let b = highest-least homes (G .net .n) 0 (omega arith) in
+      omega arith
+
+  records : 1 ≤ k → need (eqb k 0) (G .net .n) 0 ≡ G .net .n
+  records h = sym (need-no (eqb k 0) (G .net .n) 0 (G .net .n) (ne-eqb k 0 (λ z. omega arith)) refl)
+
+  pub filled-rules : MeetsRules G → Homes → MeetsRules (filled G homes)
+  unfolding filled homeRecords home
+  filled-rules R H =
+      record {
+        limits = record { nodes = R .limits .nodes; links = R .limits .links; topologies = (H .few, H .nodes); weights = R .limits .weights };
+        links-long = R .links-long;
+        homes-long = H .long ∙ sym (records (some R H));
+        rows-long = rows-long;
+        ends = R .ends;
+        order = R .order;
+        weights = R .weights;
+        homes = λ v l. let e = records (some R H) in (H .low v (omega arith), highest-least homes (G .net .n) v (omega arith));
+        normal = λ i l one h g c. subst (λ (x : ℕ). (1 ≤ x) × (x ≤ G .net .wmax)) (sym (filled-row i l one h g ∙ on-normal (class (filled G homes) i l) (at (G .weights) l) c)) (R .weights l g);
+        other = λ i l one h g c. filled-row i l one h g ∙ on-other (class (filled G homes) i l) (at (G .weights) l) c;
+      }
+
+  pub filled-accepted : MeetsRules G → Homes → ((i : ℕ) → 1 ≤ i → Sound (withHomes G homes) i) → AcceptedSet (filled G homes)
+  unfolding filled
+  filled-accepted R H sound =
+      record {
+        rules = filled-rules R H;
+        topologies = some R H;
+        sound = λ i one h. fewer-isolated (withHomes G homes) (filled G homes) i i (filled-fewer i) (sound i one);
+      }
+
+-- ---- what first fit gives
+
+fitted-homes : (G : Set) (cap : ℕ) → MeetsRules G → cap ≤ 32 → fits G cap ≡ true → Homes G (firstFit G cap)
+unfolding firstFit
+fitted-homes G cap R small ok =
+    let top = highest-most (firstFit G cap) (G .net .n) cap (home-high G cap ok) in
+    record {
+      long = homes-long G cap (G .net .n);
+      low = home-low G cap ok;
+      few = omega arith;
+      nodes = highest-most (firstFit G cap) (G .net .n) (G .net .n) (λ v l. home-n G cap R (fitted-removable G cap ok) v);
+    }
+
+pub built-accepted : BuiltAccepted
+unfolding built
+built-accepted G cap R small ok =
+    let three = R .limits .nodes .0 in
+    filled-accepted G (firstFit G cap) R (fitted-homes G cap R small ok) (fitted-sound G cap ok (omega arith))
