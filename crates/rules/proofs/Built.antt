@@ -22,7 +22,7 @@ use Rattle.rules.proofs.FirstFit.{homes-long, home-n, home-low, home-hi
 
 -- ---- the highest home
 
-highest-most : (homes : List ℕ) (n c : ℕ) → ((v : ℕ) → v < n → getD homes v 0 ≤ c) → highest homes n ≤ c
+pub highest-most : (homes : List ℕ) (n c : ℕ) → ((v : ℕ) → v < n → getD homes v 0 ≤ c) → highest homes n ≤ c
 unfolding highest
 highest-most homes zero c h = omega arith
 highest-most homes (suc n) c h =
@@ -30,7 +30,7 @@ highest-most homes (suc n) c h =
     let b = h n (omega arith) in
     omega arith
 
-highest-least : (homes : List ℕ) (n v : ℕ) → v < n → getD homes v 0 ≤ highest homes n
+pub highest-least : (homes : List ℕ) (n v : ℕ) → v < n → getD homes v 0 ≤ highest homes n
 unfolding highest
 highest-least homes zero v l = absurd (omega arith)
 highest-least homes (suc n) v l = pick (λ h. highest-least homes n v h) (eqb v n) refl

@@ -1,7 +1,7 @@
 -- First fit: with cap n it succeeds exactly where removing any one node leaves the others connected, and each topology it fills meets the rules.
 use mathlib.Core.Path.{_≡_, refl, sym, ap, subst, _∙_}
 use mathlib.Core.Bool.{Bool, true, false, _&&_}
-use mathlib.Core.Logic.{_↔_, _⊎_, inl, inr}
+use mathlib.Core.Logic.{_⊎_, inl, inr}
 use mathlib.Core.List.{List}
 use Prim.Native.Nat.{ℕ, zero, suc, _+_, _≤_, _<_}
 use native.Mathlib.Omega.{arith}
@@ -10,15 +10,15 @@ use lib.ListN.{length, getD, set, length-set, length-replicate}
 use lib.Seq.{getD-set-same, getD-set-other}
 use borrow.Author.Tests.{ltb-true, ltb-false, leb-true, le-leb, eqb-true, eqb-false, eq-eqb, ne-eqb}
 use Rattle.rules.specs.declared.Network.{Network}
-use Rattle.rules.specs.Basics.{need, all, any, lowest}
+use Rattle.rules.specs.Basics.{all, any, lowest}
 use Rattle.rules.specs.File.{Set}
 use Rattle.rules.specs.Isolation.{joins, linkBetween, neighbours, home, isolated, topologyNumber}
-use Rattle.rules.specs.Building.{withHomes, homeless, admits, firstTopology, homesAfter, firstFit, fits, spared, buildNumber}
+use Rattle.rules.specs.Building.{withHomes, homeless, admits, firstTopology, homesAfter, firstFit, fits}
 use Rattle.rules.specs.Demands.{Sound, MeetsRules, avoiding, Removable, BuiltExactly}
-use Rattle.rules.proofs.Choices.{and-of, and-left, and-right, clash, false-of, need-yes, need-no, need-ok}
+use Rattle.rules.proofs.Choices.{and-of, and-left, and-right, clash}
 use Rattle.rules.proofs.Numbers.{all-at, all-of, any-at, any-of, lowest-is, lowest-found}
 use Rattle.rules.proofs.Sound.{Fewer, fewer-isolated, number-sound, sound-number}
-use Rattle.rules.proofs.Removal.{alone, homeless-at, alone-isolates, alone-sound, spared-exactly, sound-removable}
+use Rattle.rules.proofs.Removal.{alone, homeless-at, alone-isolates, alone-sound, sound-removable}
 
 -- ---- one graph under several homes
 
@@ -41,7 +41,7 @@ module _ (G : Set) where
 -- ---- the homes as they are given
 
 module _ (G : Set) (cap : ℕ) where
-  abbrev given : ℕ → ℕ
+  abbrev pub given : ℕ → ℕ
   given v = firstTopology G cap (homesAfter G cap v) v
 
   pub homes-long : (v : ℕ) → length (homesAfter G cap v) ≡ G .net .n
@@ -54,7 +54,7 @@ module _ (G : Set) (cap : ℕ) where
   unplaced zero x h = homeless-at (G .net .n) x
   unplaced (suc v) x h = getD-set-other (homesAfter G cap v) v x (given v) 0 (λ z. omega arith) ∙ unplaced v x (omega arith)
 
-  placed : (v x : ℕ) → x < v → v ≤ G .net .n → getD (homesAfter G cap v) x 0 ≡ given x
+  pub placed : (v x : ℕ) → x < v → v ≤ G .net .n → getD (homesAfter G cap v) x 0 ≡ given x
   unfolding homesAfter
   placed zero x l h = absurd (omega arith)
   placed (suc v) x l h = pick (λ g. placed v x g (omega arith)) (eqb x v) refl
@@ -200,21 +200,7 @@ module _ (G : Set) (cap : ℕ) where
             (λ v l q. absurd (clash (any (isolated (withHomes G (firstFit G cap)) i) (G .net .n)) (any-of (isolated (withHomes G (firstFit G cap)) i) (G .net .n) v l q) e))
             (own-sound 0 some)
 
--- ---- the statements
+-- ---- the statement
 
 pub built-exactly : BuiltExactly
 built-exactly G R = (λ ok. fitted-removable G (G .net .n) ok, λ O. succeeds G (G .net .n) R O (omega arith))
-
--- 9 exactly where removing some one node disconnects the others
-pub nine-exactly : (G : Set) (cap : ℕ) → MeetsRules G → (buildNumber G cap ≡ 9) ↔ (Removable G → ⊥)
-unfolding buildNumber
-nine-exactly G cap R =
-    (λ e O. nine e (spared-exactly G R .1 O),
-     λ h. sym (need-no (all (spared G) (G .net .n)) 9 (need (fits G cap) 10 0) 9 (false-of (all (spared G) (G .net .n)) (λ e. h (spared-exactly G R .0 e))) refl))
-  where
-    nine : need (all (spared G) (G .net .n)) 9 (need (fits G cap) 10 0) ≡ 9 → all (spared G) (G .net .n) ≡ true → ⊥
-    nine e s = not-nine (fits G cap) (need-yes (all (spared G) (G .net .n)) 9 (need (fits G cap) 10 0) (need (fits G cap) 10 0) s refl ∙ e)
-      where
-        not-nine : (t : Bool) → need t 10 0 ≡ 9 → ⊥
-        not-nine true q = omega (arith, need-yes true 10 0 0 refl refl)
-        not-nine false q = omega (arith, need-no false 10 0 10 refl refl)

@@ -11,3 +11,4 @@ pub mod Sound
 pub mod Removal
 pub mod FirstFit
 pub mod Built
+pub mod BuildNumber
