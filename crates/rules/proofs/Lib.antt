@@ -19,3 +19,5 @@ pub mod Removal
 pub mod FirstFit
 pub mod Built
 pub mod BuildNumber
+pub mod Checked
+pub mod BuildAnswers
