@@ -1,26 +1,23 @@
 -- What the entry `build` answers, given n as its cap and room: a length exactly when any one node can be removed.
-use mathlib.Core.Path.{_≡_, refl, sym, ap, subst, _∙_}
-use mathlib.Core.Bool.{Bool, true, false}
+use mathlib.Core.Path.{_≡_, sym, ap, _∙_}
+use mathlib.Core.Bool.{true}
 use mathlib.Core.Logic.{_↔_}
 use mathlib.Core.List.{List, [], _∷_}
-use Prim.Native.Nat.{ℕ, zero, suc, _≤_}
+use Prim.Native.Nat.{ℕ, _≤_}
 use native.Mathlib.Omega.{arith}
 use lib.ListN.{length}
-use lib.Dec.{eqb, leb}
 use Rattle.rules.specs.declared.Network.{Network}
 use Rattle.rules.specs.declared.Verdict.{Verdict}
 use Rattle.rules.specs.declared.Verdict.the-variants.{Accepted}
-use Rattle.rules.specs.declared.LengthAnswer.{LengthAnswer}
 use Rattle.rules.specs.declared.LengthAnswer.the-variants as long
-use Rattle.rules.specs.Basics.{need}
 use Rattle.rules.specs.Limits.{fileLength}
 use Rattle.rules.specs.File.{Set, encode, headerOf, setOf}
 use Rattle.rules.specs.Building.{fits, built, buildNumber}
-use Rattle.rules.specs.Judgement.{refuse, andThen, judge, needGraph, needCap, needFit, needRoom}
+use Rattle.rules.specs.Judgement.{andThen, judge, needGraph, needCap, needFit, needRoom}
 use Rattle.rules.specs.Answers.{tell, lengthTells}
-use Rattle.rules.specs.Entries.{Promise, BuildInput, builtFrom, buildEntry}
+use Rattle.rules.specs.Entries.{BuildInput, builtFrom, buildEntry}
 use Rattle.rules.specs.Demands.{MeetsRules, Removable, BuildAnswers}
-use Rattle.rules.proofs.Choices.{numbers, refuse-ok, refuse-zero, then-ok, then-first, then-second}
+use Rattle.rules.proofs.Choices.{numbers, refuse-ok, refuse-zero, then-ok, then-first}
 use Rattle.rules.proofs.Determined.{length-one}
 use Rattle.rules.proofs.Encoded.{encode-long}
 use Rattle.rules.proofs.Held.{net-held}

@@ -1,5 +1,5 @@
 -- The builder's refusals: 9 exactly where removing some one node disconnects the others, 10 exactly where first fit needs more than the cap.
-use mathlib.Core.Path.{_≡_, refl, sym, ap, _∙_}
+use mathlib.Core.Path.{_≡_, refl, ap, _∙_}
 use mathlib.Core.Bool.{Bool, true, false}
 use mathlib.Core.Logic.{_↔_, _⊎_, inl, inr}
 use mathlib.Core.List.{List}
@@ -8,7 +8,6 @@ use native.Mathlib.Omega.{arith}
 use lib.Dec.{leb}
 use lib.ListN.{getD, set}
 use borrow.Author.Tests.{leb-true, leb-false, le-leb}
-use Rattle.rules.specs.declared.Network.{Network}
 use Rattle.rules.specs.Basics.{need, all, lowest}
 use Rattle.rules.specs.File.{Set}
 use Rattle.rules.specs.Building.{admits, firstTopology, homesAfter, firstFit, fits, highest, spared, buildNumber}

@@ -1,22 +1,20 @@
 -- Every set that first fit gives is accepted: it meets the file's rules, and each of its topologies meets the rules of a topology.
 use mathlib.Core.Path.{_≡_, refl, sym, ap, subst, _∙_}
-use mathlib.Core.Bool.{Bool, true, false, _&&_}
+use mathlib.Core.Bool.{Bool, true, false}
 use mathlib.Core.List.{List}
-use Prim.Native.Nat.{ℕ, zero, suc, _+_, _-_, _*_, _≤_, _<_, max}
+use Prim.Native.Nat.{ℕ, zero, suc, _+_, _*_, _≤_, _<_}
 use native.Mathlib.Omega.{arith}
-use lib.Dec.{eqb, leb}
-use lib.ListN.{length, getD, take, drop}
-use lib.Seq.{getD-take, getD-drop}
-use borrow.Author.Tests.{eqb-true, eqb-false, ne-eqb}
-use Rattle.rules.specs.declared.Network.{Network}
-use Rattle.rules.specs.Basics.{if_then_else_, need, upTo, flat}
-use Rattle.rules.specs.Limits.{homeRecords, rowWeights}
+use lib.Dec.{eqb}
+use lib.ListN.{length, getD}
+use borrow.Author.Tests.{eqb-true, eqb-false}
+use Rattle.rules.specs.Basics.{upTo}
+use Rattle.rules.specs.Limits.{rowWeights}
 use Rattle.rules.specs.File.{Set, rowStart}
 use Rattle.rules.specs.Isolation.{joins, linkBetween, neighbours, home, isolated, Class, class, Normal, rowInForce}
 use Rattle.rules.specs.Building.{withHomes, firstFit, fits, highest, onNormal, filled, built}
 use Rattle.rules.specs.Demands.{at, Sound, MeetsRules, AcceptedSet, BuiltAccepted}
-use Rattle.rules.proofs.Choices.{need-no, if-no}
 use Rattle.rules.proofs.Rows.{length-upTo, getD-upTo, length-flat, getD-flat}
+use Rattle.rules.proofs.Held.{homes-all, row-entry}
 use Rattle.rules.proofs.Sound.{Fewer, fewer-isolated}
 use Rattle.rules.proofs.FirstFit.{homes-long, home-n, home-low, home-high, fitted-removable, fitted-sound}
 
@@ -73,16 +71,18 @@ module _ (G : Set) (homes : List ℕ) where
   unfolding class isolated home filled withHomes
   same-class i l = refl
 
+  -- its entry for link l
+  row-at : (j l : ℕ) → j < k → l < G .net .m → at (rowInForce (filled G homes) (suc j)) l ≡ onNormal (class (filled G homes) (suc j) l) (at (G .weights) l)
+  unfolding filled row rowStart rowWeights
+  row-at j l h g =
+      row-entry (filled G homes) j l g
+      ∙ getD-flat row (G .net .m) k j l 0 (λ y q. row-long y) h g
+      ∙ getD-upTo (λ x. onNormal (class (withHomes G homes) (suc j) x) (getD (G .weights) x 0)) (G .net .m) l 0 g
+      ∙ ap (λ (c : Class). onNormal c (getD (G .weights) l 0)) (sym (same-class (suc j) l))
+
   filled-row : (i l : ℕ) → 1 ≤ i → i ≤ k → l < G .net .m → at (rowInForce (filled G homes) i) l ≡ onNormal (class (filled G homes) i l) (at (G .weights) l)
-  unfolding rowInForce filled row rowWeights rowStart
-  filled-row i l one h g =
-      let back : suc (i - 1) ≡ i = omega arith in
-      ap (λ (list : List ℕ). getD list l 0) (if-no (eqb i 0) (take (G .net .m) (G .weights)) (take (G .net .m) (drop ((i - 1) * G .net .m) (flat row k))) (ne-eqb i 0 (λ z. omega arith)))
-      ∙ getD-take (G .net .m) (drop ((i - 1) * G .net .m) (flat row k)) l 0 g
-      ∙ getD-drop ((i - 1) * G .net .m) (flat row k) l 0
-      ∙ getD-flat row (G .net .m) k (i - 1) l 0 (λ y q. row-long y) (omega arith) g
-      ∙ getD-upTo (λ x. onNormal (class (withHomes G homes) (suc (i - 1)) x) (getD (G .weights) x 0)) (G .net .m) l 0 g
-      ∙ ap (λ (c : Class). onNormal c (getD (G .weights) l 0)) (ap (λ (t : ℕ). class (withHomes G homes) t l) back ∙ sym (same-class i l))
+  filled-row zero l one h g = absurd (omega arith)
+  filled-row (suc j) l one h g = row-at j l (omega arith) g
 
   filled-fewer : (i : ℕ) → Fewer (withHomes G homes) i (filled G homes) i
   unfolding neighbours linkBetween joins isolated home filled withHomes
@@ -103,21 +103,18 @@ module _ (G : Set) (homes : List ℕ) where
       let b = highest-least homes (G .net .n) 0 (omega arith) in
       omega arith
 
-  records : 1 ≤ k → need (eqb k 0) (G .net .n) 0 ≡ G .net .n
-  records h = sym (need-no (eqb k 0) (G .net .n) 0 (G .net .n) (ne-eqb k 0 (λ z. omega arith)) refl)
-
   pub filled-rules : MeetsRules G → Homes → MeetsRules (filled G homes)
-  unfolding filled homeRecords home
+  unfolding filled home
   filled-rules R H =
       record {
         limits = record { nodes = R .limits .nodes; links = R .limits .links; topologies = (H .few, H .nodes); weights = R .limits .weights };
         links-long = R .links-long;
-        homes-long = H .long ∙ sym (records (some R H));
+        homes-long = H .long ∙ sym (homes-all (filled G homes .net) (some R H));
         rows-long = rows-long;
         ends = R .ends;
         order = R .order;
         weights = R .weights;
-        homes = λ v l. let e = records (some R H) in (H .low v (omega arith), highest-least homes (G .net .n) v (omega arith));
+        homes = λ v l. let e = homes-all (filled G homes .net) (some R H) in (H .low v (omega arith), highest-least homes (G .net .n) v (omega arith));
         normal = λ i l one h g c. subst (λ (x : ℕ). (1 ≤ x) × (x ≤ G .net .wmax)) (sym (filled-row i l one h g ∙ on-normal (class (filled G homes) i l) (at (G .weights) l) c)) (R .weights l g);
         other = λ i l one h g c. filled-row i l one h g ∙ on-other (class (filled G homes) i l) (at (G .weights) l) c;
       }

@@ -1,17 +1,14 @@
 -- Demand 2, sets: the check accepts bytes exactly when they are the encoding of a set that meets the rules, its topologies' too.
 use mathlib.Core.Path.{_≡_, refl, sym, ap, subst, _∙_}
-use mathlib.Core.Bool.{true}
 use mathlib.Core.List.{List}
-use Prim.Native.Nat.{ℕ, zero, suc, _≤_}
-use native.Mathlib.Omega.{arith}
+use Prim.Native.Nat.{ℕ, _≤_}
 use lib.Dec.{leb}
 use borrow.Author.Tests.{leb-true, le-leb}
 use Rattle.rules.specs.declared.Network.{Network}
-use Rattle.rules.specs.declared.Verdict.{Verdict}
 use Rattle.rules.specs.declared.Verdict.the-variants.{Accepted}
 use Rattle.rules.specs.Basics.{need}
 use Rattle.rules.specs.File.{Set, encode, headerOf, setOf}
-use Rattle.rules.specs.Judgement.{refuse, andThen, judge, needSet, topologies, check}
+use Rattle.rules.specs.Judgement.{andThen, judge, needSet, topologies, check}
 use Rattle.rules.specs.Demands.{AcceptedSet, CheckedExactly}
 use Rattle.rules.proofs.Choices.{need-ok, need-yes, refuse-ok, refuse-zero, then-ok, then-first, then-second}
 use Rattle.rules.proofs.Held.{net-held}

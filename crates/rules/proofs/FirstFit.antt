@@ -1,24 +1,23 @@
 -- First fit: with cap n it succeeds exactly where removing any one node leaves the others connected, and each topology it fills meets the rules.
-use mathlib.Core.Path.{_≡_, refl, sym, ap, subst, _∙_}
-use mathlib.Core.Bool.{Bool, true, false, _&&_}
+use mathlib.Core.Path.{_≡_, refl, sym, subst, _∙_}
+use mathlib.Core.Bool.{Bool, true, false}
 use mathlib.Core.Logic.{_⊎_, inl, inr}
 use mathlib.Core.List.{List}
-use Prim.Native.Nat.{ℕ, zero, suc, _+_, _≤_, _<_}
+use Prim.Native.Nat.{ℕ, zero, suc, _≤_, _<_}
 use native.Mathlib.Omega.{arith}
 use lib.Dec.{eqb, ltb, leb}
 use lib.ListN.{length, getD, set, length-set, length-replicate}
 use lib.Seq.{getD-set-same, getD-set-other}
-use borrow.Author.Tests.{ltb-true, ltb-false, leb-true, le-leb, eqb-true, eqb-false, eq-eqb, ne-eqb}
-use Rattle.rules.specs.declared.Network.{Network}
-use Rattle.rules.specs.Basics.{all, any, lowest}
+use borrow.Author.Tests.{ltb-true, ltb-false, leb-true, le-leb, eqb-true, eqb-false, eq-eqb}
+use Rattle.rules.specs.Basics.{any, lowest}
 use Rattle.rules.specs.File.{Set}
 use Rattle.rules.specs.Isolation.{joins, linkBetween, neighbours, home, isolated, topologyNumber}
 use Rattle.rules.specs.Building.{withHomes, homeless, admits, firstTopology, homesAfter, firstFit, fits}
 use Rattle.rules.specs.Demands.{Sound, MeetsRules, avoiding, Removable, BuiltExactly}
-use Rattle.rules.proofs.Choices.{and-of, and-left, and-right, clash}
+use Rattle.rules.proofs.Choices.{and-of, and-right, clash}
 use Rattle.rules.proofs.Numbers.{all-at, all-of, any-at, any-of, lowest-is, lowest-found}
-use Rattle.rules.proofs.Sound.{Fewer, fewer-isolated, number-sound, sound-number}
-use Rattle.rules.proofs.Removal.{alone, homeless-at, alone-isolates, alone-sound, sound-removable}
+use Rattle.rules.proofs.Sound.{fewer-isolated, number-sound, sound-number}
+use Rattle.rules.proofs.Removal.{homeless-at, alone-isolates, alone-sound, sound-removable}
 
 -- ---- one graph under several homes
 
@@ -98,15 +97,15 @@ module _ (G : Set) (cap : ℕ) where
 
     given-high : (homes : List ℕ) (v : ℕ) → v < G .net .n → ((x : ℕ) → getD homes x 0 ≤ v) → firstTopology G cap homes v ≤ suc v
     unfolding firstTopology
-    given-high homes v lv low = pick (ltb v cap) refl
+    given-high homes v lv low = pick (ltb v cap) refl (lowest-is (λ j. admits G homes (suc j) v) cap cap)
       where
-        pick : (t : Bool) → ltb v cap ≡ t → suc (lowest (λ j. admits G homes (suc j) v) cap cap) ≤ suc v
-        pick true e = let f = lowest-found (λ j. admits G homes (suc j) v) cap cap v (ltb-true v cap e) (fresh homes v lv low) in omega (arith, f .0)
-        pick false e = let l = ltb-false v cap e in past (lowest-is (λ j. admits G homes (suc j) v) cap cap)
-          where
-            past : (lowest (λ j. admits G homes (suc j) v) cap cap ≡ cap) ⊎ ((lowest (λ j. admits G homes (suc j) v) cap cap < cap) × (admits G homes (suc (lowest (λ j. admits G homes (suc j) v) cap cap)) v ≡ true)) → suc (lowest (λ j. admits G homes (suc j) v) cap cap) ≤ suc v
-            past (inl q) = let l = ltb-false v cap e in omega arith
-            past (inr q) = let l = ltb-false v cap e in omega (arith, q .0)
+        least : ℕ
+        least = lowest (λ j. admits G homes (suc j) v) cap cap
+
+        pick : (t : Bool) → ltb v cap ≡ t → (least ≡ cap) ⊎ ((least < cap) × (admits G homes (suc least) v ≡ true)) → suc least ≤ suc v
+        pick true e q = let f = lowest-found (λ j. admits G homes (suc j) v) cap cap v (ltb-true v cap e) (fresh homes v lv low) in omega (arith, f .0)
+        pick false e (inl q) = let l = ltb-false v cap e in omega arith
+        pick false e (inr q) = let l = ltb-false v cap e in omega (arith, q .0)
 
     homes-high : (v x : ℕ) → v ≤ G .net .n → getD (homesAfter G cap v) x 0 ≤ v
     unfolding homesAfter homeless

@@ -1,24 +1,22 @@
 -- Removing one node: the test for 9 is `Removable`; where any one node can be removed, each node alone meets the rules; and any one node of an
 -- accepted set's graph can be.
 use mathlib.Core.Path.{_≡_, refl, sym, ap, _∙_}
-use mathlib.Core.Bool.{Bool, true, false, not, _&&_, _||_, true≢false}
+use mathlib.Core.Bool.{Bool, true, false, not, _&&_, false≢true}
 use mathlib.Core.Logic.{_↔_, _⊎_, inl, inr}
-use mathlib.Core.List.{List}
-use Prim.Native.Nat.{ℕ, zero, suc, _+_, _≤_, _<_}
+use Prim.Native.Nat.{ℕ, zero, suc, _≤_, _<_}
 use native.Mathlib.Omega.{arith}
-use lib.Dec.{eqb, ltb, leb}
-use lib.ListN.{length, getD, set, replicate, length-replicate}
+use lib.Dec.{eqb, leb}
+use lib.ListN.{getD, set, replicate, length-replicate}
 use lib.Seq.{getD-set-same, getD-set-other}
 use borrow.Author.Tests.{ltb-true, eqb-true, eqb-false, eq-eqb, ne-eqb, not-true, le-leb}
-use Rattle.rules.specs.declared.Network.{Network}
-use Rattle.rules.specs.Basics.{need, all, lowest}
-use Rattle.rules.specs.Limits.{homeRecords}
+use Rattle.rules.specs.Basics.{all}
 use Rattle.rules.specs.File.{Set}
 use Rattle.rules.specs.Isolation.{joins, linkBetween, neighbours, home, isolated, backbone, normalHop, connected}
 use Rattle.rules.specs.Building.{withHomes, homeless, spared}
 use Rattle.rules.specs.Demands.{Walk, Two, Sound, MeetsRules, AcceptedSet, avoiding, OthersJoined, Removable}
-use Rattle.rules.proofs.Choices.{and-of, and-left, and-right, or-cases, need-no}
+use Rattle.rules.proofs.Choices.{and-of, and-left, and-right, or-cases}
 use Rattle.rules.proofs.Numbers.{all-at, all-of, lowest-is}
+use Rattle.rules.proofs.Held.{homes-all}
 use Rattle.rules.proofs.Walks.{leaves, walk-map}
 use Rattle.rules.proofs.Connected.{Joined, backbone-of, backbone-node, backbone-free, hop-of, hop-link, hop-from, hop-to, connected-joined, joined-connected}
 use Rattle.rules.proofs.Sound.{Fewer, fewer-isolated}
@@ -201,14 +199,10 @@ sound-removable S h v l =
 
 -- a set's nodes have homes, from 1 to k
 module _ (S : Set) (A : AcceptedSet S) where
-  pub home-records : homeRecords (S .net) ≡ S .net .n
-  unfolding homeRecords
-  home-records = sym (need-no (eqb (S .net .k) 0) (S .net .n) 0 (S .net .n) (ne-eqb (S .net .k) 0 (λ z. let k = A .topologies in omega arith)) refl)
-
   own-home : (v : ℕ) → v < S .net .n → isolated S (home S v) v ≡ true
   unfolding isolated
   own-home v l =
-      let low = A .rules .homes v (let e = home-records in omega arith) in
+      let low = A .rules .homes v (let e = homes-all (S .net) (A .topologies) in omega arith) in
       and-of (leb 1 (home S v)) (eqb (home S v) (home S v)) (le-leb 1 (home S v) (low .0)) (eq-eqb (home S v) (home S v) refl)
 
   -- an accepted set's graph stays connected without any one node
@@ -216,7 +210,7 @@ module _ (S : Set) (A : AcceptedSet S) where
   accepted-removable =
       sound-removable S
       (λ v l.
-      let low = A .rules .homes v (let e = home-records in omega arith) in
+      let low = A .rules .homes v (let e = homes-all (S .net) (A .topologies) in omega arith) in
       (home S v, own-home v l, A .sound (home S v) (low .0) (low .1)))
 
   -- and is connected: in topology 0 no node is isolated
@@ -224,5 +218,5 @@ module _ (S : Set) (A : AcceptedSet S) where
   unfolding isolated
   accepted-connected u w lu lw =
       let none : (v : ℕ) → isolated S 0 v ≡ false = λ v. refl in
-      let s = fewer-isolated S S 1 0 (record { nodes = refl; links = λ x y. refl; fewer = λ v l e. absurd (let z : _≡_ {A = Bool} true false = sym e in true≢false z) }) (A .sound 1 (omega arith) (A .topologies)) in
+      let s = fewer-isolated S S 1 0 (record { nodes = refl; links = λ x y. refl; fewer = λ v l e. absurd (false≢true e) }) (A .sound 1 (omega arith) (A .topologies)) in
       walk-map (normalHop S 0) (neighbours S) (hop-link S 0) u w (s .joined u w (backbone-of S 0 u lu (none u)) (backbone-of S 0 w lw (none w)))

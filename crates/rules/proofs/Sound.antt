@@ -4,20 +4,19 @@ use mathlib.Core.Bool.{Bool, true, false, not, _&&_, _||_}
 use mathlib.Core.Logic.{_↔_}
 use Prim.Native.Nat.{ℕ, zero, suc, _≤_, _<_}
 use native.Mathlib.Omega.{arith}
-use lib.Dec.{ltb, leb}
+use lib.Dec.{leb}
 use borrow.Author.Tests.{leb-true, le-leb}
-use Rattle.rules.specs.declared.Network.{Network}
 use Rattle.rules.specs.declared.Verdict.{Verdict}
 use Rattle.rules.specs.declared.Verdict.the-variants.{Accepted}
-use Rattle.rules.specs.Basics.{need, all, count}
+use Rattle.rules.specs.Basics.{need, all}
 use Rattle.rules.specs.File.{Set}
 use Rattle.rules.specs.Isolation.{neighbours, isolated, backbone, normalHop, connected, restrictedLinks, twoLinks, topologyNumber}
 use Rattle.rules.specs.Judgement.{refuse, topologies}
 use Rattle.rules.specs.Demands.{Walk, stay, go, Two, Sound}
-use Rattle.rules.proofs.Choices.{and-of, and-left, and-right, or-left, or-right, false-of, clash, need-ok, refuse-ok, refuse-zero, turn-all, turn-each}
+use Rattle.rules.proofs.Choices.{and-of, and-left, and-right, or-left, or-right, false-of, clash, same-test, need-ok, refuse-ok, refuse-zero, turn-all, turn-each}
 use Rattle.rules.proofs.Numbers.{all-at, all-of, two-of, of-two}
 use Rattle.rules.proofs.Walks.{join, turn, walk-map}
-use Rattle.rules.proofs.Connected.{Joined, backbone-of, backbone-node, backbone-free, hop-of, hop-link, hop-from, hop-to, hop-back, connected-joined, joined-connected}
+use Rattle.rules.proofs.Connected.{backbone-of, backbone-node, backbone-free, hop-of, hop-link, hop-from, hop-to, hop-back, connected-joined, joined-connected}
 
 -- each isolated node has two restricted links, as a proposition
 abbrev pub Linked : Set → ℕ → Type 0
@@ -48,6 +47,10 @@ module _ (S : Set) (i : ℕ) where
 
   pub two-exactly : (twoLinks S i ≡ true) ↔ Linked S i
   two-exactly = (two-linked, linked-two)
+
+  -- a test of a program's own that decides the same is `twoLinks`
+  pub two-by : (t : Bool) → (t ≡ true → Linked S i) → (Linked S i → t ≡ true) → t ≡ twoLinks S i
+  two-by t yes-linked linked-yes = same-test t (twoLinks S i) (λ e. linked-two (yes-linked e)) (λ e. linked-yes (two-linked e))
 
   -- ---- 7, then 8
 
