@@ -62,9 +62,11 @@ module _ (i : BuildInput) (room : List ℕ) (file : judge (i .file) ≡ Accepted
 
   pub verdict-fits : (buildEntry .verdict i room ≡ Accepted) ↔ (fits G (i .cap) ≡ true)
   unfolding buildEntry builtFrom
-  verdict-fits = (λ e. fit-ok G (i .cap) R (then-first (needFit G (i .cap)) (needRoom (fileLength (built G (i .cap) .net)) room) (sym passed ∙ e)),
-      λ ok. passed ∙ then-ok (needFit G (i .cap)) (needRoom (fileLength (built G (i .cap) .net)) room) (ok-fit G (i .cap) R ok)
-          ∙ room-ok (fileLength (built G (i .cap) .net)) room (let l = built-long G (i .cap) R high ok in omega arith))
+  verdict-fits = (
+    λ e. fit-ok G (i .cap) R (then-first (needFit G (i .cap)) (needRoom (fileLength (built G (i .cap) .net)) room) (sym passed ∙ e)),
+    λ ok. passed ∙ then-ok (needFit G (i .cap)) (needRoom (fileLength (built G (i .cap) .net)) room) (ok-fit G (i .cap) R ok)
+        ∙ room-ok (fileLength (built G (i .cap) .net)) room (let l = built-long G (i .cap) R high ok in omega arith),
+  )
     where
       R : MeetsRules G
       R = judged (i .file) file .rules

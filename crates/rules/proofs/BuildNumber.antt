@@ -88,9 +88,10 @@ module _ (G : Set) (cap : ℕ) (R : MeetsRules G) where
 
   pub nine-exactly : (buildNumber G cap ≡ 9) ↔ (Removable G → ⊥)
   unfolding buildNumber need
-  nine-exactly =
-      (λ e O. clash (all (spared G) (G .net .n)) (spared-exactly G R .1 O) (nine (all (spared G) (G .net .n)) (fits G cap) e),
-       λ h. rw (false-of (all (spared G) (G .net .n)) (λ e. h (spared-exactly G R .0 e))))
+  nine-exactly = (
+    λ e O. clash (all (spared G) (G .net .n)) (spared-exactly G R .1 O) (nine (all (spared G) (G .net .n)) (fits G cap) e),
+    λ h. rw (false-of (all (spared G) (G .net .n)) (λ e. h (spared-exactly G R .0 e))),
+  )
     where
       nine : (s f : Bool) → need s 9 (need f 10 0) ≡ 9 → s ≡ false
       nine true true e = absurd (omega arith)

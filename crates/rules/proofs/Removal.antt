@@ -150,9 +150,10 @@ module _ (G : Set) (R : MeetsRules G) where
 
   pub spared-exactly : (all (spared G) (G .net .n) ≡ true) ↔ Removable G
   unfolding spared
-  spared-exactly =
-      (λ e v l. joined-others G v l (connected-joined (alone G v) 1 (all-at (spared G) (G .net .n) e v l)),
-       λ O. all-of (spared G) (G .net .n) (λ v l. joined-connected (alone G v) 1 (others-joined v l (O v l))))
+  spared-exactly = (
+    λ e v l. joined-others G v l (connected-joined (alone G v) 1 (all-at (spared G) (G .net .n) e v l)),
+    λ O. all-of (spared G) (G .net .n) (λ v l. joined-connected (alone G v) 1 (others-joined v l (O v l))),
+  )
 
   -- ---- where any one node can be removed, each node alone meets the rules
 
