@@ -23,3 +23,9 @@ pub mod NextHops
 pub mod Walks
 pub mod Connected
 pub mod Sound
+pub mod Removal
+pub mod FirstFit
+pub mod Built
+pub mod BuildNumber
+pub mod Checked
+pub mod BuildAnswers
