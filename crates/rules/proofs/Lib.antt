@@ -20,3 +20,6 @@ pub mod Degree
 pub mod Reach
 pub mod Transit
 pub mod NextHops
+pub mod Steps
+pub mod Routing
+pub mod Runs
