@@ -23,3 +23,4 @@ pub mod NextHops
 pub mod Steps
 pub mod Routing
 pub mod Runs
+pub mod Delivery

@@ -68,7 +68,7 @@ module _ (S : Set) (t : ℕ) where
         rank-bound (λ x. distance S (suc j) x t) (S .net .n) u lu,
       )
 
-  start-few : (u : ℕ) → u < S .net .n → hopsLeft S t 0 u ≤ mostHops (S .net)
+  pub start-few : (u : ℕ) → u < S .net .n → hopsLeft S t 0 u ≤ mostHops (S .net)
   unfolding mostHops
   start-few u lu = omega (arith, rank-bound (λ x. distance S 0 x t) (S .net .n) u lu)
 
