@@ -1,9 +1,9 @@
 -- Demand 3: under one failed link, or failed nodes that share one home, a packet whose source and destination are up is delivered; one for a failed node is dropped.
-use mathlib.Core.Path.{_≡_, refl, sym, ap, subst, _∙_}
+use mathlib.Core.Path.{_≡_, refl, sym, ap, _∙_}
 use mathlib.Core.Logic.{_⊎_, inl, inr}
 use mathlib.Core.Bool.{Bool, true, false, not, _||_, true≢false, false≢true}
 use mathlib.Core.List.{List, [], _∷_}
-use Prim.Native.Nat.{ℕ, zero, suc, _+_, _-_, _*_, _≤_, _<_}
+use Prim.Native.Nat.{ℕ, zero, suc, _-_, _≤_, _<_}
 use native.Mathlib.Omega.{arith}
 use lib.Dec.{eqb}
 use lib.ListN.{getD}
@@ -24,7 +24,7 @@ use Rattle.rules.specs.Demands.{AcceptedSet, Tolerated, EachHop, Deliver
 use Rattle.rules.proofs.Choices.{clash, true-of}
 use Rattle.rules.proofs.Links.{Ends, one-end, link-ends}
 use Rattle.rules.proofs.Homes.{home-low, home-high}
-use Rattle.rules.proofs.Routing.{Nearer, usable-neighbours, isolated-last, next-nearer, last-hop, two-homes, alternate-other}
+use Rattle.rules.proofs.Routing.{usable-neighbours, isolated-last, next-nearer, last-hop, two-homes, alternate-other}
 use Rattle.rules.proofs.Steps.{Onto, Detects, View, there, plain, stuck, other, other-down, around, around-down, view}
 use Rattle.rules.proofs.Runs.{Within, Advance, Good, good-step, hopsLeft, start-few, next-of, other-of, around-of, last, starts, whole-trip, always-bounded}
 
@@ -164,7 +164,7 @@ module _ (S : Set) (A : AcceptedSet S) (l : ℕ) (p : Packet) (W : Within S p) (
   down-ends : (v : ℕ) → Detects S on p v → Ends S l (p .place) v
   down-ends v d = link-down S l (p .place) v (joined v (d .0)) (d .1)
 
-  keep-link : (s : Step) → View S on p s → Kept (OnLink S l) s
+  pub keep-link : (s : Step) → View S on p s → Kept (OnLink S l) s
   keep-link s (there e) = tt
   keep-link s (plain v e o) = go k
     where

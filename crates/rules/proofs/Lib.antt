@@ -24,3 +24,5 @@ pub mod Steps
 pub mod Routing
 pub mod Runs
 pub mod Delivery
+pub mod Lines
+pub mod ChangeKinds

@@ -1,20 +1,19 @@
 -- What forwarding needs of the next hops and alternates of an accepted set.
 use mathlib.Core.Path.{_≡_, refl, sym, ap, _∙_}
 use mathlib.Core.Bool.{Bool, true, false}
-use Prim.Native.Nat.{ℕ, zero, suc, _+_, _≤_, _<_}
+use Prim.Native.Nat.{ℕ, _≤_, _<_}
 use native.Mathlib.Omega.{arith}
 use lib.Dec.{eqb}
 use borrow.Author.Tests.{eqb-true, eqb-false}
-use Rattle.rules.specs.Limits.{restrictedWeight}
 use Rattle.rules.specs.File.{Set}
-use Rattle.rules.specs.Isolation.{home, isolated, neighbours, hopWeight, usable}
+use Rattle.rules.specs.Isolation.{home, neighbours, usable}
 use Rattle.rules.specs.Distance.{distance, nextHop, alternate}
 use Rattle.rules.specs.Demands.{AcceptedSet}
 use Rattle.rules.proofs.Links.{hop-neighbours, hop-isolated, hop-out, hop-into, usable-hop, hop-usable}
 use Rattle.rules.proofs.Homes.{home-isolated, at-home, away, home-low, home-high}
 use Rattle.rules.proofs.Reach.{some-weight, distance-self, distance-over}
 use Rattle.rules.proofs.Transit.{over-backbone, from-isolated, to-isolated, transit}
-use Rattle.rules.proofs.NextHops.{Next, next, nearest-alternates, candidate-outlet}
+use Rattle.rules.proofs.NextHops.{next, nearest-alternates, candidate-outlet}
 
 -- a node over a usable link, nearer to t
 pub record Nearer (S : Set) (i u t v : ℕ) : Type 0 where

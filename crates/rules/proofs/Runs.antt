@@ -1,13 +1,12 @@
 -- Whatever is down: every run of an accepted set ends within 2n - 3 hops and one change of topology, over links that are up and usable.
 -- In topology 0 the nodes nearer to the destination and n - 2 more bound the hops that may still come, in a backup topology the nodes nearer to it; every move lessens this.
-use mathlib.Core.Path.{_≡_, refl, sym, ap, subst, _∙_}
+use mathlib.Core.Path.{_≡_, refl, subst, _∙_}
 use mathlib.Core.Bool.{Bool, true, false}
 use mathlib.Core.List.{List, [], _∷_}
-use Prim.Native.Nat.{ℕ, zero, suc, _+_, _-_, _*_, _≤_, _<_}
+use Prim.Native.Nat.{ℕ, zero, suc, _+_, _-_, _≤_, _<_}
 use native.Mathlib.Omega.{arith}
 use lib.Dec.{eqb}
 use lib.ListN.{length}
-use Rattle.rules.specs.declared.Network.{Network}
 use Rattle.rules.specs.declared.Packet.{Packet}
 use Rattle.rules.specs.declared.Kind.{Kind}
 use Rattle.rules.specs.declared.Kind.the-variants as change
@@ -20,7 +19,7 @@ use Rattle.rules.specs.File.{Set}
 use Rattle.rules.specs.Isolation.{home, neighbours, usable}
 use Rattle.rules.specs.Distance.{distance, nextHop, alternate}
 use Rattle.rules.specs.Forwarding.{tablesOf, packet, step, Run, hops, stop, changed, onward, afterStep, run}
-use Rattle.rules.specs.Demands.{AcceptedSet, EachHop, Bounded, AlwaysBounded, MovesOnUsable}
+use Rattle.rules.specs.Demands.{AcceptedSet, EachHop, AlwaysBounded, MovesOnUsable}
 use Rattle.rules.proofs.Rounds.{rank, rank-lt, rank-bound}
 use Rattle.rules.proofs.Homes.{home-low, home-high}
 use Rattle.rules.proofs.Routing.{Nearer, usable-neighbours, next-nearer, last-hop, two-homes, alternate-nearer}
