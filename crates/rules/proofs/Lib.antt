@@ -29,3 +29,9 @@ pub mod Built
 pub mod BuildNumber
 pub mod Checked
 pub mod BuildAnswers
+pub mod Steps
+pub mod Routing
+pub mod Runs
+pub mod Delivery
+pub mod Lines
+pub mod ChangeKinds
