@@ -17,19 +17,10 @@ use Rattle.rules.specs.File.{Set}
 use Rattle.rules.specs.Isolation.{home}
 use Rattle.rules.specs.Distance.{nextHop}
 use Rattle.rules.specs.Forwarding.{tablesOf, step}
-use Rattle.rules.specs.Demands.{AcceptedSet}
+use Rattle.rules.specs.Demands.{AcceptedSet, KindIs}
 use Rattle.rules.proofs.Routing.{usable-neighbours, straight, last-hop, two-homes}
 use Rattle.rules.proofs.Steps.{Detects, View, there, plain, stuck, other, other-down, around, around-down, view}
 use Rattle.rules.proofs.Runs.{Within, next-of}
-
--- what the kind of a change from p to q is, at the next hop v
-pub record KindIs (S : Set) (p : Packet) (v : ℕ) (q : Packet) (kind : Kind) : Type 0 where
-  pub on-the-way : (kind ≡ change.T) ↔ (p .destination ≡ v → ⊥)
-  pub same-home : (kind ≡ change.S) ↔ ((p .destination ≡ v) × (home S (p .place) ≡ home S v))
-  pub two-homes : (kind ≡ change.D) ↔ ((p .destination ≡ v) × (home S (p .place) ≡ home S v → ⊥))
-  -- D changes to the home of the place, T and S to that of v
-  pub to-place : kind ≡ change.D → q .topology ≡ home S (p .place)
-  pub to-next : (kind ≡ change.D → ⊥) → q .topology ≡ home S v
 
 module _ (S : Set) (p : Packet) (v : ℕ) (q : Packet) where
   is-t : (p .destination ≡ v → ⊥) → q .topology ≡ home S v → KindIs S p v q change.T

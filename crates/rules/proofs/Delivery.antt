@@ -20,13 +20,13 @@ use Rattle.rules.specs.Isolation.{home, neighbours, linkBetween}
 use Rattle.rules.specs.Distance.{distance, nextHop, alternate}
 use Rattle.rules.specs.Forwarding.{Fault, nothing, link, nodes, failed, up, tablesOf, packet, step, Run, stop, onward, afterStep, run}
 use Rattle.rules.specs.Report.{runUnder}
-use Rattle.rules.specs.Demands.{AcceptedSet, Tolerated, EachHop, Delivery, LostWithNode}
+use Rattle.rules.specs.Demands.{AcceptedSet, Tolerated, EachHop, Delivery, LostWithNode, last}
 use Rattle.rules.proofs.Choices.{clash, true-of}
 use Rattle.rules.proofs.Links.{Ends, one-end, link-ends}
 use Rattle.rules.proofs.Homes.{home-low, home-high}
 use Rattle.rules.proofs.Routing.{usable-neighbours, isolated-last, next-nearer, last-hop, two-homes, alternate-other}
 use Rattle.rules.proofs.Steps.{Onto, Detects, View, there, plain, stuck, other, other-down, around, around-down, view}
-use Rattle.rules.proofs.Runs.{Within, Advance, Good, good-step, hopsLeft, start-few, next-of, other-of, around-of, last, starts, whole-trip, always-bounded}
+use Rattle.rules.proofs.Runs.{Within, Advance, Good, good-step, hopsLeft, start-few, next-of, other-of, around-of, starts, whole-trip, always-bounded}
 
 -- ---- what no step breaks, and under which none is dropped
 

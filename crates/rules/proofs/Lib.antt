@@ -35,3 +35,5 @@ pub mod Runs
 pub mod Delivery
 pub mod Lines
 pub mod ChangeKinds
+pub mod Answered
+pub mod Shown

@@ -19,7 +19,7 @@ use Rattle.rules.specs.File.{Set}
 use Rattle.rules.specs.Isolation.{home, neighbours, usable}
 use Rattle.rules.specs.Distance.{distance, nextHop, alternate}
 use Rattle.rules.specs.Forwarding.{tablesOf, packet, step, Run, hops, stop, changed, onward, afterStep, run}
-use Rattle.rules.specs.Demands.{AcceptedSet, EachHop, AlwaysBounded, MovesOnUsable}
+use Rattle.rules.specs.Demands.{AcceptedSet, EachHop, AlwaysBounded, MovesOnUsable, last}
 use Rattle.rules.proofs.Rounds.{rank, rank-lt, rank-bound}
 use Rattle.rules.proofs.Homes.{home-low, home-high}
 use Rattle.rules.proofs.Routing.{Nearer, usable-neighbours, next-nearer, last-hop, two-homes, alternate-nearer}
@@ -157,10 +157,6 @@ moves-on-usable S A on p q kind lu lt li e =
 
 -- ---- the whole run
 
-abbrev pub last : ℕ → List ℕ → ℕ
-last u [] = u
-last u (w ∷ l) = last w l
-
 -- what holds of a run from p, of at most h hops and c changes, whatever is down
 pub record Travelled (S : Set) (on : ℕ → ℕ → Bool) (p : Packet) (h c : ℕ) (r : Run) : Type 0 where
   pub over : r .outcome ≡ ended.UnderWay → ⊥
@@ -229,4 +225,4 @@ pub always-bounded : AlwaysBounded
 unfolding hops
 always-bounded S A on u t lu lt =
     let g = whole-trip S A on u t lu lt in
-    record { over = g .over; few = omega (arith, g .few, start-few S t u lu); once = g .once; crossed = g .crossed }
+    record { over = g .over; few = omega (arith, g .few, start-few S t u lu); once = g .once; crossed = g .crossed; ends = g .final }
