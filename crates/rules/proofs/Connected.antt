@@ -2,18 +2,16 @@
 use mathlib.Core.Path.{_≡_, refl, sym, ap, _∙_}
 use mathlib.Core.Bool.{Bool, true, false, not, _&&_, _||_, false≢true}
 use mathlib.Core.Logic.{_↔_, _⊎_, inl, inr}
-use mathlib.Core.List.{List}
-use Prim.Native.Nat.{ℕ, zero, suc, _≤_, _<_}
+use Prim.Native.Nat.{ℕ, zero, suc, _<_}
 use native.Mathlib.Omega.{arith}
 use lib.Dec.{eqb, ltb}
 use lib.ListN.{getD, List·getD-eq-default}
 use borrow.Author.Tests.{ltb-true, ltb-false, lt-ltb, eqb-true, eq-eqb, not-true}
-use Rattle.rules.specs.declared.Network.{Network}
 use Rattle.rules.specs.Basics.{any, all, count, lowest, upTo}
 use Rattle.rules.specs.File.{Set}
 use Rattle.rules.specs.Isolation.{joins, linkBetween, neighbours, isolated, backbone, normalHop, spread, reached, connected}
 use Rattle.rules.specs.Demands.{Walk, stay, go}
-use Rattle.rules.proofs.Choices.{and-of, and-left, and-right, or-left, or-right, or-cases, clash}
+use Rattle.rules.proofs.Choices.{and-of, and-left, and-right, or-left, or-right, or-cases, clash, same-test}
 use Rattle.rules.proofs.Numbers.{all-at, all-of, any-at, any-of, count-lt, count-all, lowest-ext, lowest-found}
 use Rattle.rules.proofs.Rows.{length-upTo, getD-upTo}
 use Rattle.rules.proofs.Walks.{join, turn}
@@ -230,3 +228,7 @@ module _ (S : Set) (i : ℕ) where
 
   pub connected-exactly : (connected S i ≡ true) ↔ Joined S i
   connected-exactly = (connected-joined, joined-connected)
+
+  -- a test of a program's own that decides the same is `connected`
+  pub connected-by : (t : Bool) → (t ≡ true → Joined S i) → (Joined S i → t ≡ true) → t ≡ connected S i
+  connected-by t yes-joined joined-yes = same-test t (connected S i) (λ e. joined-connected (yes-joined e)) (λ e. joined-yes (connected-joined e))

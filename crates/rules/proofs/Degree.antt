@@ -1,23 +1,23 @@
 -- An accepted set has at least as many links as nodes: each node has two links, and each link two ends. So a path of normal links weighs less than one
 -- restricted link.
-use mathlib.Core.Path.{_≡_, refl, sym, ap, _∙_}
-use mathlib.Core.Logic.{_⊎_, inl, inr}
+use mathlib.Core.Path.{_≡_, refl, sym}
+use mathlib.Core.Logic.{inl, inr}
 use mathlib.Core.Bool.{Bool, true, false, _||_}
 use Prim.Native.Nat.{ℕ, zero, suc, _+_, _-_, _*_, _≤_, _<_}
 use native.Mathlib.Nat.{mul-le-mul-right}
 use native.Mathlib.Omega.{arith}
 use lib.Dec.{eqb}
 use lib.ListN.{getD}
-use borrow.Author.Tests.{eqb-true, eqb-false, eq-eqb, ne-eqb}
+use borrow.Author.Tests.{eqb-true, eq-eqb, ne-eqb}
 use Rattle.rules.specs.Basics.{count}
 use Rattle.rules.specs.Limits.{restrictedWeight}
 use Rattle.rules.specs.File.{Set}
-use Rattle.rules.specs.Isolation.{linkBetween, home}
+use Rattle.rules.specs.Isolation.{linkBetween}
 use Rattle.rules.specs.Demands.{AcceptedSet}
 use Rattle.rules.proofs.Choices.{or-left, or-right}
 use Rattle.rules.proofs.Numbers.{bit, count-none, count-more, two-counted}
 use Rattle.rules.proofs.Links.{Ends, one-end, link-below, link-ends}
-use Rattle.rules.proofs.Homes.{Outlet, outlets}
+use Rattle.rules.proofs.Homes.{outlets}
 
 abbrev sum : (ℕ → ℕ) → ℕ → ℕ
 sum f zero = 0

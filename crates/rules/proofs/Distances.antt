@@ -1,5 +1,5 @@
 -- The distance that is computed by rounds is the least total weight over all paths, for every set that meets the rules; `far` where there is no path.
-use mathlib.Core.Path.{_≡_, refl, sym, ap, _∙_}
+use mathlib.Core.Path.{_≡_, refl, ap, _∙_}
 use mathlib.Core.Bool.{Bool, true, false}
 use Prim.Native.Nat.{ℕ, zero, suc, _+_, _-_, _*_, _≤_, _<_}
 use native.Mathlib.Nat.{mul-le-mul-right}
@@ -16,7 +16,7 @@ use Rattle.rules.specs.Demands.{MeetsRules}
 use Rattle.rules.proofs.Numbers.{least-ext}
 use Rattle.rules.proofs.Rows.{getD-upTo}
 use Rattle.rules.proofs.Links.{usable-hop, hop-usable, hop-light, restricted-bound}
-use Rattle.rules.proofs.Rounds.{Way, best, best-none, best-self, attained, under, found, found-light}
+use Rattle.rules.proofs.Rounds.{Way, best, best-none, attained, under, found, found-light}
 use Rattle.rules.proofs.Rounds as rounds
 
 -- two least totals are one
@@ -70,6 +70,10 @@ module _ (S : Set) (M : MeetsRules S) (i : ℕ) (hi : i ≤ S .net .k) where
 
   pub distance-far : (u t : ℕ) → u < S .net .n → distance S i u t ≤ far
   distance-far u t lu = rw (distance-best S i t u lu) (best-none (hopWeight S i) (S .net .n) far t (S .net .n - 1) u)
+
+  -- the sum of a hop and a distance stays below 2 to the power 31, `far` among the distances
+  pub distance-sum : (u t x y : ℕ) → u < S .net .n → hopWeight S i x y + distance S i u t < 2147483648
+  distance-sum u t x y lu = omega (arith, hop-light S M i x y hi, restricted-bound S M, distance-far u t lu)
 
   -- a distance below `far` is the total of a path
   pub distance-path : (u t : ℕ) → u < S .net .n → distance S i u t < far → Path S i t u (distance S i u t)

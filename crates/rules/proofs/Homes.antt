@@ -1,16 +1,16 @@
 -- Homes, isolated nodes and the backbone of an accepted set.
-use mathlib.Core.Path.{_≡_, refl, sym, ap, _∙_}
-use mathlib.Core.Bool.{Bool, true, false, not, _&&_}
-use Prim.Native.Nat.{ℕ, zero, suc, _+_, _≤_, _<_}
+use mathlib.Core.Path.{_≡_, refl}
+use mathlib.Core.Bool.{true, false, not, _&&_}
+use Prim.Native.Nat.{ℕ, _≤_, _<_}
 use native.Mathlib.Omega.{arith}
 use lib.Dec.{eqb, ltb, leb}
-use borrow.Author.Tests.{eqb-true, eqb-false, eq-eqb, ne-eqb, ltb-true, lt-ltb, le-leb, not-true}
+use borrow.Author.Tests.{eqb-true, eq-eqb, ne-eqb, ltb-true, lt-ltb, le-leb, not-true}
 use Rattle.rules.specs.Basics.{need}
 use Rattle.rules.specs.Limits.{homeRecords}
 use Rattle.rules.specs.File.{Set}
 use Rattle.rules.specs.Isolation.{home, isolated, backbone, neighbours}
 use Rattle.rules.specs.Demands.{AcceptedSet, Two}
-use Rattle.rules.proofs.Choices.{and-of, and-left, and-right, false-of, clash}
+use Rattle.rules.proofs.Choices.{and-of, and-left, and-right, false-of}
 
 module _ (S : Set) (i v : ℕ) where
   pub isolated-home : isolated S i v ≡ true → home S v ≡ i

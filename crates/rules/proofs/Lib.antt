@@ -23,3 +23,17 @@ pub mod NextHops
 pub mod Walks
 pub mod Connected
 pub mod Sound
+pub mod Removal
+pub mod FirstFit
+pub mod Built
+pub mod BuildNumber
+pub mod Checked
+pub mod BuildAnswers
+pub mod Steps
+pub mod Routing
+pub mod Runs
+pub mod Delivery
+pub mod Lines
+pub mod ChangeKinds
+pub mod Answered
+pub mod Shown

@@ -1,20 +1,18 @@
 -- Laws of links: the link between two nodes, its class by their homes, and the weight of the hop, for a set that meets the rules.
-use mathlib.Core.Path.{_≡_, refl, sym, ap, ap₂, _∙_}
+use mathlib.Core.Path.{_≡_, refl, ap, ap₂, _∙_}
 use mathlib.Core.Logic.{_⊎_, inl, inr}
-use mathlib.Core.Bool.{Bool, true, false, not, _&&_, _||_, true≢false, false≢true}
-use mathlib.Core.List.{List}
-use Prim.Native.Nat.{ℕ, zero, suc, _+_, _-_, _*_, _≤_, _<_}
-use native.Mathlib.Nat.{mul-le-mul-right, mul-le-mul-left, le-trans}
+use mathlib.Core.Bool.{Bool, true, false, _&&_}
+use Prim.Native.Nat.{ℕ, zero, suc, _-_, _≤_, _<_}
+use native.Mathlib.Nat.{mul-le-mul-right}
 use native.Mathlib.Omega.{arith}
-use lib.Dec.{eqb, ltb, leb}
-use lib.ListN.{length, getD, take}
+use lib.Dec.{eqb}
+use lib.ListN.{getD}
 use lib.Seq.{getD-take}
-use borrow.Author.Tests.{eqb-true, eqb-false, eq-eqb, ne-eqb, ltb-true, lt-ltb, leb-true, le-leb}
-use Rattle.rules.specs.declared.Network.{Network}
-use Rattle.rules.specs.Basics.{if_then_else_, lowest}
+use borrow.Author.Tests.{eqb-true, eq-eqb, ltb-true, lt-ltb, leb-true, le-leb}
+use Rattle.rules.specs.Basics.{if_then_else_}
 use Rattle.rules.specs.Limits.{restrictedWeight, rowWeights}
 use Rattle.rules.specs.File.{Set}
-use Rattle.rules.specs.Isolation.{joins, linkBetween, neighbours, home, isolated, Class, Isolated, Restricted, Normal, classBy, class, rowInForce, weightBy, weightFrom, hopWeight, usable}
+use Rattle.rules.specs.Isolation.{joins, linkBetween, neighbours, isolated, Class, Normal, classBy, class, rowInForce, weightBy, weightFrom, hopWeight, usable}
 use Rattle.rules.specs.Demands.{MeetsRules}
 use Rattle.rules.proofs.Choices.{and-of, and-left, and-right, or-left, or-right, or-cases, if-yes, if-no, same-test, false-of}
 use Rattle.rules.proofs.Numbers.{lowest-found, lowest-is, lowest-ext}

@@ -1,21 +1,20 @@
 -- Next hops lie on least paths, ties to the lower number; alternates are the nearest neighbours over a restricted link.
-use mathlib.Core.Path.{_≡_, refl, sym, ap, ap₂, _∙_}
+use mathlib.Core.Path.{_≡_, refl, sym, _∙_}
 use mathlib.Core.Logic.{_⊎_, inl, inr}
 use mathlib.Core.Bool.{Bool, true, false, not, _&&_}
-use Prim.Native.Nat.{ℕ, zero, suc, _+_, _-_, _*_, _≤_, _<_}
+use Prim.Native.Nat.{ℕ, _+_, _-_, _≤_, _<_}
 use native.Mathlib.Omega.{arith}
 use lib.Dec.{eqb}
-use lib.ListN.{getD}
 use borrow.Author.Tests.{eqb-true, eqb-false, eq-eqb, ne-eqb, not-true}
-use Rattle.rules.specs.Basics.{if_then_else_, lowest, least}
+use Rattle.rules.specs.Basics.{lowest, least}
 use Rattle.rules.specs.File.{Set}
-use Rattle.rules.specs.Isolation.{home, neighbours, hopWeight, usable, isolated, Class, Isolated, Restricted, Normal, classBy, class, linkBetween}
-use Rattle.rules.specs.Distance.{Path, here, over, LeastTotal, far, distances, distance, onLeastPath, nextHop, isRestricted, candidate, nearest, alternate}
+use Rattle.rules.specs.Isolation.{home, neighbours, hopWeight, usable, isolated, classBy, class, linkBetween}
+use Rattle.rules.specs.Distance.{Path, here, over, far, distances, distance, onLeastPath, nextHop, isRestricted, candidate, nearest, alternate}
 use Rattle.rules.specs.Demands.{AcceptedSet, NextHopIs, LeastNextHops, AlternateIs, NearestAlternates}
 use Rattle.rules.proofs.Choices.{and-of, and-left, and-right, if-yes, if-no, clash}
 use Rattle.rules.proofs.Numbers.{lowest-found, lowest-before, least-le, least-is}
 use Rattle.rules.proofs.Links.{neighbours-below, class-between}
-use Rattle.rules.proofs.Homes.{isolated-home, home-isolated, at-home, home-low, home-high, away, Outlet, outlets}
+use Rattle.rules.proofs.Homes.{at-home, home-high, Outlet, outlets}
 use Rattle.rules.proofs.Distances.{least-one}
 use Rattle.rules.proofs.Reach.{least-distances, below-far, distance-over}
 
@@ -106,8 +105,7 @@ module _ (S : Set) (A : AcceptedSet S) (u : ℕ) (lu : u < S .net .n) where
       let r = isRestricted (class S (home S u) (linkBetween S u w)) in
       let n = and-left (neighbours S u w) (r && not (eqb w v)) e in
       let b = and-right (neighbours S u w) (r && not (eqb w v)) e in
-      let c = and-left r (not (eqb w v)) b in
-      (
+      let c = and-left r (not (eqb w v)) b in (
         record {
           joined = n;
           node = neighbours-below S (A .rules) u w n .1;

@@ -1,19 +1,17 @@
 -- In an accepted set there is a path between any two nodes in every topology, and the distance is its least total weight.
-use mathlib.Core.Path.{_≡_, refl, sym, ap, _∙_}
-use mathlib.Core.Bool.{Bool, true, false, not, _&&_}
-use Prim.Native.Nat.{ℕ, zero, suc, _+_, _-_, _*_, _≤_, _<_}
+use mathlib.Core.Path.{_≡_, refl}
+use mathlib.Core.Bool.{Bool, true, false, _&&_}
+use Prim.Native.Nat.{ℕ, zero, suc, _+_, _-_, _≤_, _<_}
 use native.Mathlib.Nat.{mul-le-mul-right}
 use native.Mathlib.Omega.{arith}
-use borrow.Author.Tests.{eqb-true, eqb-false}
-use lib.Dec.{eqb}
 use Rattle.rules.specs.Limits.{restrictedWeight}
 use Rattle.rules.specs.File.{Set}
 use Rattle.rules.specs.Isolation.{home, isolated, backbone, neighbours, normalHop, hopWeight, usable}
-use Rattle.rules.specs.Distance.{Path, here, over, LeastTotal, far, distance}
+use Rattle.rules.specs.Distance.{Path, here, over, far, distance}
 use Rattle.rules.specs.Demands.{AcceptedSet, Walk, stay, go, LeastDistances}
 use Rattle.rules.proofs.Choices.{and-left, and-right}
 use Rattle.rules.proofs.Links.{neighbours-turned, neighbours-below, none-isolated, hop-neighbours, hop-out, hop-into, hop-normal, hop-light, usable-hop, hop-usable, restricted-heavy, restricted-bound}
-use Rattle.rules.proofs.Homes.{backbone-of, backbone-below, backbone-not, home-low, home-high, Outlet, outlet-of}
+use Rattle.rules.proofs.Homes.{backbone-of, backbone-not, home-low, home-high, outlet-of}
 use Rattle.rules.proofs.Distances.{distance-found, distance-light, distance-least}
 
 -- a path, whatever its total

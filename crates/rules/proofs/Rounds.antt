@@ -1,16 +1,15 @@
 -- Least totals by rounds, over any weights c between n nodes; 0 is no hop. n - 1 rounds are enough: a node that round h brings nearer has at least h
 -- nodes nearer than itself, and there are at most n - 1 of those.
-use mathlib.Core.Path.{_≡_, refl, sym, ap, _∙_}
+use mathlib.Core.Path.{_≡_, refl}
 use mathlib.Core.Logic.{_⊎_, inl, inr}
 use mathlib.Core.Bool.{Bool, true, false}
 use Prim.Native.Nat.{ℕ, zero, suc, _+_, _*_, _≤_, _<_}
-use native.Mathlib.Nat.{suc-mul, zero-mul}
 use native.Mathlib.Omega.{arith}
 use lib.Dec.{eqb, ltb, leb}
 use borrow.Author.Tests.{eqb-true, eq-eqb, ltb-true, ltb-false, lt-ltb, le-ltb, leb-true, le-leb}
 use Rattle.rules.specs.Basics.{if_then_else_, count, least}
 use Rattle.rules.proofs.Choices.{if-yes, if-no}
-use Rattle.rules.proofs.Numbers.{count-le, count-lt, count-all, least-other, least-le, least-is}
+use Rattle.rules.proofs.Numbers.{count-lt, count-all, least-other, least-le, least-is}
 
 -- a way from a node to t, with its total
 pub data Way (c : ℕ → ℕ → ℕ) (n t : ℕ) : ℕ → ℕ → Type 0 where
@@ -106,8 +105,8 @@ module _ (c : ℕ → ℕ → ℕ) (n none t : ℕ) where
             arith,
             ih w (nearer-before h u w (q .1) (q .2) f (q .3)),
             count-lt (λ x. ltb (to h x) (to h w)) (λ x. ltb (to (suc h) x) (to (suc h) u)) n w
-            (λ x lx e. lt-ltb (to (suc h) x) (to (suc h) u) (omega (arith, ltb-true (to h x) (to h w) e, best-falls h x, less)))
-            (q .1) (le-ltb (to h w) (to h w) (omega arith)) (lt-ltb (to (suc h) w) (to (suc h) u) (omega (arith, best-falls h w, less))),
+                (λ x lx e. lt-ltb (to (suc h) x) (to (suc h) u) (omega (arith, ltb-true (to h x) (to h w) e, best-falls h x, less)))
+                (q .1) (le-ltb (to h w) (to h w) (omega arith)) (lt-ltb (to (suc h) w) (to (suc h) u) (omega (arith, best-falls h w, less))),
           )
 
   -- a total that is not `none` is that of a way

@@ -4,20 +4,19 @@ use mathlib.Core.Bool.{Bool, true, false, not, _&&_, _||_}
 use mathlib.Core.Logic.{_↔_}
 use Prim.Native.Nat.{ℕ, zero, suc, _≤_, _<_}
 use native.Mathlib.Omega.{arith}
-use lib.Dec.{ltb, leb}
+use lib.Dec.{leb}
 use borrow.Author.Tests.{leb-true, le-leb}
-use Rattle.rules.specs.declared.Network.{Network}
 use Rattle.rules.specs.declared.Verdict.{Verdict}
 use Rattle.rules.specs.declared.Verdict.the-variants.{Accepted}
-use Rattle.rules.specs.Basics.{need, all, count}
 use Rattle.rules.specs.File.{Set}
 use Rattle.rules.specs.Isolation.{neighbours, isolated, backbone, normalHop, connected, restrictedLinks, twoLinks, topologyNumber}
 use Rattle.rules.specs.Judgement.{refuse, topologies}
-use Rattle.rules.specs.Demands.{Walk, stay, go, Two, Sound}
-use Rattle.rules.proofs.Choices.{and-of, and-left, and-right, or-left, or-right, false-of, clash, need-ok, refuse-ok, refuse-zero, turn-all, turn-each}
+use Rattle.rules.specs.Demands.{Walk, stay, go, Two, Sound, Fewer}
+use Rattle.rules.proofs.Choices.{and-of, and-left, and-right, or-left, or-right, false-of, clash, same-test, refuse-ok, refuse-zero, turn-all, turn-each}
+use Rattle.rules.proofs.Order.{seven-first, eight-next, no-number}
 use Rattle.rules.proofs.Numbers.{all-at, all-of, two-of, of-two}
 use Rattle.rules.proofs.Walks.{join, turn, walk-map}
-use Rattle.rules.proofs.Connected.{Joined, backbone-of, backbone-node, backbone-free, hop-of, hop-link, hop-from, hop-to, hop-back, connected-joined, joined-connected}
+use Rattle.rules.proofs.Connected.{backbone-of, backbone-node, backbone-free, hop-of, hop-link, hop-from, hop-to, hop-back, connected-joined, joined-connected}
 
 -- each isolated node has two restricted links, as a proposition
 abbrev pub Linked : Set → ℕ → Type 0
@@ -26,18 +25,15 @@ Linked S i = (v : ℕ) → v < S .net .n → isolated S i v ≡ true → Two (λ
 module _ (S : Set) (i : ℕ) where
   -- ---- 8
 
-  served : ℕ → Bool
-  served v = not (isolated S i v) || leb 2 (restrictedLinks S i v)
-
   pub two-linked : twoLinks S i ≡ true → Linked S i
-  unfolding twoLinks served restrictedLinks
+  unfolding twoLinks restrictedLinks
   two-linked e v l q =
-      let t : leb 2 (restrictedLinks S i v) ≡ true = rw q at (all-at served (S .net .n) e v l) in
+      let t : leb 2 (restrictedLinks S i v) ≡ true = rw q at (all-at _ (S .net .n) e v l) in
       two-of (λ w. neighbours S v w && backbone S i w) (S .net .n) (leb-true 2 (restrictedLinks S i v) t)
 
   pub linked-two : Linked S i → twoLinks S i ≡ true
-  unfolding twoLinks served restrictedLinks
-  linked-two T = all-of served (S .net .n) (λ v l. pick v l (isolated S i v) refl)
+  unfolding twoLinks restrictedLinks
+  linked-two T = all-of _ (S .net .n) (λ v l. pick v l (isolated S i v) refl)
     where
       pick : (v : ℕ) → v < S .net .n → (t : Bool) → isolated S i v ≡ t → (not (isolated S i v) || leb 2 (restrictedLinks S i v)) ≡ true
       pick v l true q =
@@ -49,20 +45,22 @@ module _ (S : Set) (i : ℕ) where
   pub two-exactly : (twoLinks S i ≡ true) ↔ Linked S i
   two-exactly = (two-linked, linked-two)
 
+  -- a test of a program's own that decides the same is `twoLinks`
+  pub two-by : (t : Bool) → (t ≡ true → Linked S i) → (Linked S i → t ≡ true) → t ≡ twoLinks S i
+  two-by t yes-linked linked-yes = same-test t (twoLinks S i) (λ e. linked-two (yes-linked e)) (λ e. linked-yes (two-linked e))
+
   -- ---- 7, then 8
 
   pub number-sound : topologyNumber S i ≡ 0 → Sound S i
-  unfolding topologyNumber
-  number-sound e =
-      let p = need-ok (connected S i) 6 (need (twoLinks S i) 8 0) e in
-      let q = need-ok (twoLinks S i) 7 0 (p .1) in
-      let J = connected-joined S i (p .0) in
-      record { some = J .some; joined = J .joined; two = two-linked (q .0) }
+  number-sound e = pick (connected S i) refl (twoLinks S i) refl
+    where
+      pick : (c : Bool) → connected S i ≡ c → (t : Bool) → twoLinks S i ≡ t → Sound S i
+      pick true p true q = let J = connected-joined S i p in record { some = J .some; joined = J .joined; two = two-linked q }
+      pick true p false q = let z = eight-next S i p q in absurd (omega arith)
+      pick false p t q = let z = seven-first S i p in absurd (omega arith)
 
   pub sound-number : Sound S i → topologyNumber S i ≡ 0
-  unfolding topologyNumber need
-  sound-number s =
-      rw (joined-connected S i (record { some = s .some; joined = s .joined }), linked-two (s .two))
+  sound-number s = no-number S i (joined-connected S i (record { some = s .some; joined = s .joined })) (linked-two (s .two))
 
   pub sound-exactly : (topologyNumber S i ≡ 0) ↔ Sound S i
   sound-exactly = (number-sound, sound-number)
@@ -88,12 +86,6 @@ module _ (S : Set) where
   topologies-exactly = (topologies-sound, sound-topologies)
 
 -- ---- what isolates fewer nodes keeps the rules
-
--- S′ has the nodes and the links of S, and what topology j of S′ isolates topology i of S isolates too
-pub record Fewer (S : Set) (i : ℕ) (S′ : Set) (j : ℕ) : Type 0 where
-  pub nodes : S′ .net .n ≡ S .net .n
-  pub links : (u w : ℕ) → neighbours S′ u w ≡ neighbours S u w
-  pub fewer : (v : ℕ) → v < S .net .n → isolated S′ j v ≡ true → isolated S i v ≡ true
 
 module _ (S S′ : Set) (i j : ℕ) (F : Fewer S i S′ j) (s : Sound S i) where
   wider : (v : ℕ) → backbone S i v ≡ true → backbone S′ j v ≡ true

@@ -1,7 +1,7 @@
 -- No least path of a backup topology passes an isolated node on its way: the restricted weight is more than any path over the backbone.
-use mathlib.Core.Path.{_≡_, refl, sym, ap, _∙_}
+use mathlib.Core.Path.{_≡_, refl}
 use mathlib.Core.Bool.{Bool, true, false}
-use Prim.Native.Nat.{ℕ, zero, suc, _+_, _-_, _*_, _≤_, _<_}
+use Prim.Native.Nat.{ℕ, suc, _+_, _-_, _*_, _≤_, _<_}
 use native.Mathlib.Nat.{mul-le-mul-right}
 use native.Mathlib.Omega.{arith}
 use lib.Dec.{eqb}
@@ -9,12 +9,12 @@ use borrow.Author.Tests.{eqb-true, eqb-false}
 use Rattle.rules.specs.Basics.{if_then_else_}
 use Rattle.rules.specs.Limits.{restrictedWeight}
 use Rattle.rules.specs.File.{Set}
-use Rattle.rules.specs.Isolation.{home, isolated, backbone, neighbours, normalHop, hopWeight, usable}
-use Rattle.rules.specs.Distance.{Path, here, over, LeastTotal, far, distance}
+use Rattle.rules.specs.Isolation.{isolated, normalHop, hopWeight, usable}
+use Rattle.rules.specs.Distance.{Path, here, over, far, distance}
 use Rattle.rules.specs.Demands.{AcceptedSet, Walk, stay, go}
 use Rattle.rules.proofs.Choices.{if-yes, if-no, false-of, clash}
 use Rattle.rules.proofs.Links.{neighbours-turned, neighbours-below, hop-neighbours, hop-isolated, hop-into, hop-leaves, hop-enters, usable-hop, hop-usable}
-use Rattle.rules.proofs.Homes.{backbone-of, backbone-below, Outlet, outlet-of}
+use Rattle.rules.proofs.Homes.{backbone-of, backbone-below, outlet-of}
 use Rattle.rules.proofs.Degree.{path-below-restricted}
 use Rattle.rules.proofs.Rounds.{Way, best, attained, found, found-light}
 use Rattle.rules.proofs.Rounds as rounds

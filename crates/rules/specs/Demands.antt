@@ -25,7 +25,7 @@ use Rattle.rules.specs.File.{Set, encode, headerOf, setOf}
 use Rattle.rules.specs.Isolation.{neighbours, home, isolated, backbone, class, Class, Normal, rowInForce, hopWeight, usable, normalHop}
 use Rattle.rules.specs.Distance.{Path, LeastTotal, distance, nextHop, candidate, alternate, tableBytes}
 use Rattle.rules.specs.Forwarding.{Fault, nothing, link, nodes, faultOf, failed, up, Tables, tablesOf, packet, step, Run, hops, trail, run}
-use Rattle.rules.specs.Building.{fits, built}
+use Rattle.rules.specs.Building.{firstFit, fits, highest, built, buildNumber}
 use Rattle.rules.specs.Judgement.{judge, check}
 use Rattle.rules.specs.Report.{detectedLink, detection, runUnder}
 use Rattle.rules.specs.Answers.{refused}
@@ -211,12 +211,18 @@ abbrev pub EachHop : (ℕ → ℕ → Type 0) → ℕ → List ℕ → Type 0
 EachHop R u [] = Unit {0}
 EachHop R u (w ∷ l) = R u w × EachHop R w l
 
+-- the last node of the trail u, l
+abbrev pub last : ℕ → List ℕ → ℕ
+last u [] = u
+last u (w ∷ l) = last w l
+
 -- what holds of a run whatever is down: it ends; at most 2n - 3 hops; one change of topology; each hop over a link of the graph that is up
 pub record Bounded (S : Set) (on : ℕ → ℕ → Bool) (source : ℕ) (r : Run) : Type 0 where
   pub over : r .outcome ≡ ended.UnderWay → ⊥
   pub few : hops r ≤ mostHops (S .net)
   pub once : r .changes ≤ 1
   pub crossed : EachHop (λ u w. (neighbours S u w ≡ true) × (on u w ≡ true)) source (r .visited)
+  pub ends : last source (r .visited) ≡ r .place
 
 abbrev pub AlwaysBounded : Type 0
 AlwaysBounded =
@@ -245,18 +251,33 @@ MovesOnUsable =
     (S : Set) → AcceptedSet S → (on : ℕ → ℕ → Bool) (p q : Packet) (kind : Kind) → p .place < S .net .n → p .destination < S .net .n → p .topology ≤ S .net .k
     → step S (tablesOf S) on p ≡ Moved q kind → (on (p .place) (q .place) ≡ true) × (usable S (q .topology) (p .place) (q .place) ≡ true)
 
+-- a change of topology at next hop v: kind T exactly where v is not the destination; S exactly where it is and place and v share a home; D otherwise.
+-- T and S change to v's home topology, D to that of the place
+pub record KindIs (S : Set) (p : Packet) (v : ℕ) (q : Packet) (kind : Kind) : Type 0 where
+  pub on-the-way : (kind ≡ change.T) ↔ (p .destination ≡ v → ⊥)
+  pub same-home : (kind ≡ change.S) ↔ ((p .destination ≡ v) × (home S (p .place) ≡ home S v))
+  pub two-homes : (kind ≡ change.D) ↔ ((p .destination ≡ v) × (home S (p .place) ≡ home S v → ⊥))
+  pub to-place : kind ≡ change.D → q .topology ≡ home S (p .place)
+  pub to-next : (kind ≡ change.D → ⊥) → q .topology ≡ home S v
+
+abbrev pub KindsAre : Type 0
+KindsAre =
+    (S : Set) → AcceptedSet S → (on : ℕ → ℕ → Bool) (p q : Packet) (kind : Kind) → p .place < S .net .n → p .destination < S .net .n → p .topology ≤ S .net .k
+    → step S (tablesOf S) on p ≡ Moved q kind → (q .topology ≡ p .topology → ⊥) → KindIs S p (nextHop S (p .topology) (p .place) (p .destination)) q kind
+
+-- the answer and the trail of an accepted call of the entry `run`, for a destination that is not the failed node: those of a run that is delivered
+-- in at most 2n - 3 hops, with at most one change of topology, and crosses nothing failed
+pub record AnswersDelivered (i : RunInput) (r : RunAnswer) (after : RunLent) : Type 0 where
+  pub made : Run
+  pub delivered : DeliveredBy (setOf (i .file)) (faultOf (i .failure)) (i .source) (i .destination) made
+  pub answer : r ≡ ran.Ended (record { outcome = ended.Delivered; hops = hops made; topology = made .topology; kind = made .kind })
+  pub written : take (suc (hops made)) (after .trail) ≡ trail (i .source) made
+
 -- demand 3 of what the entry `run` returns
 abbrev pub DeliveredByRun : Type 0
 DeliveredByRun =
-    (i : RunInput) (before after : RunLent) (r : RunAnswer) → Bytes (i .file) → Promise runEntry i before r after
-    → runEntry .verdict i before ≡ Accepted → failed (faultOf (i .failure)) (i .destination) ≡ false
-    → (h topology : ℕ) × (kind : Kind)
-    × (r ≡ ran.Ended (record { outcome = ended.Delivered; hops = h; topology = topology; kind = kind }))
-    × (h ≤ mostHops (headerOf (i .file)))
-    × (visited : List ℕ)
-    × (length visited ≡ h)
-    × EachHop (λ u w. (neighbours (setOf (i .file)) u w ≡ true) × (up (setOf (i .file)) (faultOf (i .failure)) u w ≡ true)) (i .source) visited
-    × (take (suc h) (after .trail) ≡ i .source ∷ visited)
+    (i : RunInput) (before after : RunLent) (r : RunAnswer) → Promise runEntry i before r after → runEntry .verdict i before ≡ Accepted
+    → failed (faultOf (i .failure)) (i .destination) ≡ false → AnswersDelivered i r after
 
 -- each line of the report is what the run does: the detecting node's step is the run's first hop and its one change of topology
 pub record LineIsRun (S : Set) (u t : ℕ) (r : Run) : Type 0 where
@@ -298,13 +319,46 @@ BuildAnswers =
     → i .cap ≡ headerOf (i .file) .n → 9192 ≤ length room → Promise buildEntry i room r after
     → ((bytes : ℕ) × (r ≡ long.Length bytes)) ↔ Removable (setOf (i .file))
 
+-- how many topologies first fit takes where it is allowed n
+unfoldable pub needs : Set → ℕ
+needs G = highest (firstFit G (G .net .n)) (G .net .n)
+
+-- 9 exactly where removing some one node disconnects the others; 10 exactly where none does and first fit needs more than the cap
+abbrev pub RefusedExactly : Type 0
+RefusedExactly =
+    (G : Set) (cap : ℕ) → MeetsRules G
+    → ((buildNumber G cap ≡ 9) ↔ (Removable G → ⊥)) × ((buildNumber G cap ≡ 10) ↔ (Removable G × (cap < needs G)))
+
+-- an accepted set's graph is connected, stays so without any one node, and has at least as many links as nodes
+pub record AcceptedGraph (S : Set) : Type 0 where
+  pub connected : (u w : ℕ) → u < S .net .n → w < S .net .n → Walk (neighbours S) u w
+  pub removable : Removable S
+  pub links : S .net .n ≤ S .net .m
+
+abbrev pub AcceptedGraphs : Type 0
+AcceptedGraphs = (S : Set) → AcceptedSet S → AcceptedGraph S
+
+-- S′ has the nodes and the links of S, and what topology j of S′ isolates topology i of S isolates too
+pub record Fewer (S : Set) (i : ℕ) (S′ : Set) (j : ℕ) : Type 0 where
+  pub nodes : S′ .net .n ≡ S .net .n
+  pub links : (u w : ℕ) → neighbours S′ u w ≡ neighbours S u w
+  pub fewer : (v : ℕ) → v < S .net .n → isolated S′ j v ≡ true → isolated S i v ≡ true
+
+-- what isolates fewer nodes keeps the rules
+abbrev pub FewerIsolated : Type 0
+FewerIsolated = (S S′ : Set) (i j : ℕ) → Fewer S i S′ j → Sound S i → Sound S′ j
+
 pub record Demand3 : Type 0 where
   pub bounded : AlwaysBounded
   pub delivery : Delivery
   pub lost-with-node : LostWithNode
   pub moves-on-usable : MovesOnUsable
+  pub kinds-are : KindsAre
   pub delivered-by-run : DeliveredByRun
   pub lines-are-runs : LinesAreRuns
   pub built-exactly : BuiltExactly
   pub built-accepted : BuiltAccepted
   pub build-answers : BuildAnswers
+  pub refused-exactly : RefusedExactly
+  pub accepted-graphs : AcceptedGraphs
+  pub fewer-isolated : FewerIsolated
