@@ -1,2 +1,3 @@
 pub mod Graph
 pub mod Hops
+pub mod Orders

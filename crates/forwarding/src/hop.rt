@@ -4,6 +4,8 @@ use housefile::end_a;
 use housefile::end_b;
 use housefile::home_records;
 use housefile::home_topology;
+use crate::order::square;
+use crate::order::times;
 use rules::Failure;
 use rules::Kind;
 use rules::Network;
@@ -108,21 +110,6 @@ fn neither(v: u8, u: u8, w: u8) -> bool
 }
 
 // ---- the tables
-
-// x × y, where both are small.
-fn times(x: usize, y: usize) -> usize
-    requires { ⌜ (x < 65536) × (y < 65536) ⌝ }
-    ensures { λ r. ⌜ (r ≡ x * y) × (r < 4294967296) ⌝ }
-{
-    x * y
-}
-
-// How many entries a table has.
-fn square(n: u8) -> usize
-    ensures { λ r. ⌜ (r ≡ n * n) × (r < 65536) ⌝ }
-{
-    (n as usize) * (n as usize)
-}
 
 // The entry of table i for node u and node t.
 fn entry(tables: &[u8], net: Network, i: usize, u: u8, t: u8) -> u8

@@ -1,10 +1,10 @@
 use borrow.Author.Needs.{needs}
 use Rattle.rules.specs.Building.{fits}
 use Rattle.forwarding.proofs.Graph.{graph}
-use Rattle.forwarding.proofs.hop.times.Statement.{statement}
-use Rattle.forwarding.proofs.hop.times.Tie as tie
-use Rattle.forwarding.proofs.hop.times.Reads as reads
-use Rattle.forwarding.proofs.hop.times.Lts as lts
+use Rattle.forwarding.proofs.order.times.Statement.{statement}
+use Rattle.forwarding.proofs.order.times.Tie as tie
+use Rattle.forwarding.proofs.order.times.Reads as reads
+use Rattle.forwarding.proofs.order.times.Lts as lts
 
 -- src/hop.rt:117:5
 mul-result : tie.Need-mul-result

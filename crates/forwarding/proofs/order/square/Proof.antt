@@ -1,10 +1,10 @@
 use borrow.Author.Needs.{needs}
 use Rattle.rules.specs.Building.{fits}
 use Rattle.forwarding.proofs.Graph.{graph}
-use Rattle.forwarding.proofs.hop.square.Statement.{statement}
-use Rattle.forwarding.proofs.hop.square.Tie as tie
-use Rattle.forwarding.proofs.hop.square.Reads as reads
-use Rattle.forwarding.proofs.hop.square.Lts as lts
+use Rattle.forwarding.proofs.order.square.Statement.{statement}
+use Rattle.forwarding.proofs.order.square.Tie as tie
+use Rattle.forwarding.proofs.order.square.Reads as reads
+use Rattle.forwarding.proofs.order.square.Lts as lts
 
 -- src/hop.rt:124:5
 mul-result : tie.Need-mul-result
