@@ -1,3 +1,4 @@
 pub mod Graph
 pub mod Hops
 pub mod Orders
+pub mod Trips

@@ -3,6 +3,7 @@
 // input; their promises fix the answer, every byte of the trail and every byte of the tables.
 pub mod hop; // hop.rt: one hop by value
 pub mod order; // order.rt: refusals 11 to 14, each as a verdict
+pub mod travel; // travel.rt: the run by lent tables
 
 use hop::lookup_number;
 use hop::take;
