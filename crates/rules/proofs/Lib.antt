@@ -35,5 +35,6 @@ pub mod Runs
 pub mod Delivery
 pub mod Lines
 pub mod ChangeKinds
+pub mod Lent
 pub mod Answered
 pub mod Shown
