@@ -1,11 +1,11 @@
 // One hop of a packet by value, in the order of 01's rule. `net` is the header of `file`, and `tables` are read as they are.
+use crate::order::square;
+use crate::order::times;
 use housefile::byte;
 use housefile::end_a;
 use housefile::end_b;
 use housefile::home_records;
 use housefile::home_topology;
-use crate::order::square;
-use crate::order::times;
 use rules::Failure;
 use rules::Kind;
 use rules::Network;
@@ -124,7 +124,15 @@ fn entry(tables: &[u8], net: Network, i: usize, u: u8, t: u8) -> u8
 // ---- one hop
 
 // To w in topology j, or dropped where w or the link to it is down.
-fn move_or_drop(file: &[u8], net: Network, failure: Failure, p: Packet, w: u8, j: u8, kind: Kind) -> Step
+fn move_or_drop(
+    file: &[u8],
+    net: Network,
+    failure: Failure,
+    p: Packet,
+    w: u8,
+    j: u8,
+    kind: Kind,
+) -> Step
     requires { ⌜ net ≡ headerOf (now file) ⌝ }
     ensures { λ r. ⌜ r ≡ moveOrDrop (on (now (file .entry)) failure) p w j kind ⌝ }
 {
@@ -211,13 +219,7 @@ pub fn take(file: &[u8], net: Network, tables: &[u8], failure: Failure, p: Packe
     if p.place == p.destination {
         return Step::Delivered(p);
     }
-    let v = entry(
-        tables,
-        net,
-        p.topology as usize,
-        p.place,
-        p.destination,
-    );
+    let v = entry(tables, net, p.topology as usize, p.place, p.destination);
     toward(file, net, tables, failure, p, v)
 }
 
@@ -255,14 +257,7 @@ fn change_number(file: &[u8], net: Network, tables: &[u8], p: Packet, v: u8, w: 
 }
 
 // What is looked up once v is the next hop: nothing where the hop is up or the packet is in a backup topology.
-fn onward_number(
-    file: &[u8],
-    net: Network,
-    tables: &[u8],
-    failure: Failure,
-    p: Packet,
-    v: u8,
-) -> u8
+fn onward_number(file: &[u8], net: Network, tables: &[u8], failure: Failure, p: Packet, v: u8) -> u8
     requires { ⌜ net ≡ headerOf (now file) ⌝ }
     ensures { λ r. ⌜ r ≡ onwardNumber (now (file .entry)) (now (tables .entry)) failure p v ⌝ }
 {
@@ -279,26 +274,14 @@ fn onward_number(
 }
 
 // 15 where an entry that the hop looks up is no neighbour, else 0.
-pub fn lookup_number(
-    file: &[u8],
-    net: Network,
-    tables: &[u8],
-    failure: Failure,
-    p: Packet,
-) -> u8
+pub fn lookup_number(file: &[u8], net: Network, tables: &[u8], failure: Failure, p: Packet) -> u8
     requires { ⌜ net ≡ headerOf (now file) ⌝ }
     ensures { λ r. ⌜ r ≡ lookupAt (now (file .entry)) (now (tables .entry)) failure p ⌝ }
 {
     if p.place == p.destination {
         return 0;
     }
-    let v = entry(
-        tables,
-        net,
-        p.topology as usize,
-        p.place,
-        p.destination,
-    );
+    let v = entry(tables, net, p.topology as usize, p.place, p.destination);
     let rest = onward_number(file, net, tables, failure, p, v);
     found(file, net, p.place, v, rest)
 }

@@ -53,20 +53,8 @@ fn failure_number(net: Network, failure: Failure) -> u8
 {
     match failure {
         Failure::Nothing => 0,
-        Failure::Link(l) => {
-            if l < net.m {
-                0
-            } else {
-                11
-            }
-        }
-        Failure::Node(v) => {
-            if v < net.n {
-                0
-            } else {
-                11
-            }
-        }
+        Failure::Link(l) => { if l < net.m { 0 } else { 11 } }
+        Failure::Node(v) => { if v < net.n { 0 } else { 11 } }
     }
 }
 
