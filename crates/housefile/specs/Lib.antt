@@ -1,0 +1,2 @@
+-- The judgement in the shape in which the code runs.
+pub mod Rules
