@@ -2,7 +2,7 @@
 use mathlib.Core.Path.{_≡_, refl, sym, ap, ap₂, _∙_}
 use mathlib.Core.Logic.{⊎-elim}
 use mathlib.Core.List.{List, [], _∷_, _++_, append-nil, append-assoc}
-use Prim.Native.Nat.{ℕ, zero, suc, _+_, _-_, _*_, _≤_, _<_, min}
+use Prim.Native.Nat.{ℕ, zero, suc, _+_, _*_, _≤_, _<_}
 use native.Mathlib.Nat.{add-zero, add-suc, zero-mul, suc-mul, mul-le-mul-right, eq-or-lt-of-le, le-of-suc-le-suc}
 use native.Mathlib.Numerals.{add-one}
 use native.Mathlib.Omega.{arith}
@@ -13,6 +13,7 @@ use Prim.Native.Nat.{ℕ, zero, suc, _+_, _*_, _≤_, _<_}
 use native.Mathlib.Nat.{zero-mul, suc-mul, mul-le-mul-right, eq-or-lt-of-le, le-of-suc-le-suc}
 use lib.ListN.{length, getD, take, drop, set, length-append, length-drop, List·getD-append}
 use lib.Seq.{getD-at, getD-append-add, drop-cons, drop-drop, set-append-seam, ext-getD, take-append-seam, drop-append-seam}
+use lib.Seq.{getD-at, getD-append-add, getD-take, drop-cons, drop-drop, set-append-seam, ext-getD, length-take-le, take-append-seam, drop-append-seam}
 use Rattle.rules.specs.Basics.{upTo, flat, laid}
 
 -- ---- upTo
