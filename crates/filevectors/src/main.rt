@@ -70,6 +70,9 @@ fn lengths(g: &[u8], s: &[u8]) {
     cut(b"1 byte", g, 1);
     cut(b"7 bytes", g, 7);
     cut(b"8 bytes", g, 8);
+}
+
+fn other_lengths(g: &[u8], s: &[u8]) {
     cut(b"graph one byte over", g, 27);
     cut(b"graph one byte short", g, 25);
     cut(b"set one byte over", s, 66);
@@ -100,6 +103,9 @@ fn marks(s: &[u8]) {
     one(b"first link's mark, second byte", s, 9, 0x4D);
     one(b"middle link's mark", s, 15, 0);
     one(b"last link's mark", s, 20, 0);
+}
+
+fn more_marks(s: &[u8]) {
     one(b"first home's mark", s, 26, 0x4C);
     one(b"middle home's mark", s, 31, 0x4B);
     one(b"last home's mark", s, 34, 0);
@@ -117,6 +123,9 @@ fn links(g: &[u8]) {
     one(b"last link as the middle", g, 22, 0);
     both(b"last link as the first", g, 22, 0, 23, 1);
     one(b"last link, b = n", g, 23, 3);
+}
+
+fn weights(g: &[u8]) {
     one(b"weight 0", g, 13, 0);
     one(b"weight wmax", g, 13, 3);
     one(b"weight wmax + 1", g, 13, 4);
@@ -125,13 +134,16 @@ fn links(g: &[u8]) {
     one(b"last link, weight 0", g, 25, 0);
 }
 
-fn homes_and_rows(s: &[u8]) {
+fn homes(s: &[u8]) {
     one(b"first home, node 1", s, 28, 1);
     one(b"middle home, node 0", s, 32, 0);
     one(b"last home, node 3", s, 36, 3);
     one(b"first home 0", s, 29, 0);
     one(b"middle home k + 1", s, 33, 4);
     one(b"last home k + 1", s, 37, 4);
+}
+
+fn rows(s: &[u8]) {
     one(b"first row, topology 2", s, 40, 2);
     one(b"middle row, topology 3", s, 49, 3);
     one(b"last row, topology 0", s, 58, 0);
@@ -145,7 +157,7 @@ fn homes_and_rows(s: &[u8]) {
     one(b"node 1's home 1: link 1-2 restricted in 1", s, 33, 1);
 }
 
-fn several(g: &[u8], s: &[u8]) {
+fn several_in_graph(g: &[u8]) {
     case(b"7 bytes and mark", g, 7, 0, 0, NOWHERE, 0);
     both(b"header mark and n", g, 0, 0, 2, 2);
     case(b"n and length", g, 25, 2, 2, NOWHERE, 0);
@@ -154,6 +166,9 @@ fn several(g: &[u8], s: &[u8]) {
     both(b"link's end and weight", g, 11, 3, 13, 0);
     both(b"link's order and weight", g, 17, 1, 19, 0);
     both(b"first link's weight, middle link's mark", g, 13, 0, 14, 0);
+}
+
+fn several_in_set(s: &[u8]) {
     both(b"last link's weight, first home's mark", s, 25, 0, 26, 0);
     both(b"home's mark and node", s, 27, 0, 28, 1);
     both(b"last home, first row's mark", s, 37, 4, 39, 0);
@@ -229,11 +244,16 @@ fn main() {
     let c =
         b"NW\x04\x00\x04\x04\x00\x01LK\x00\x01\x00\x01LK\x00\x03\x00\x01LK\x01\x02\x00\x01LK\x02\x03\x00\x01HM\x00\x01HM\x01\x02HM\x02\x03HM\x03\x04BW\x01\x00\x00\x00\x00\x00\x01\x00\x01BW\x02\x00\x00\x00\x01\x00\x00\x00\x01BW\x03\x00\x01\x00\x01\x00\x00\x00\x00BW\x04\x00\x01\x00\x00\x00\x01\x00\x00";
     lengths(g, s);
+    other_lengths(g, s);
     counts(g, s);
     marks(s);
+    more_marks(s);
     links(g);
-    homes_and_rows(s);
-    several(g, s);
+    weights(g);
+    homes(s);
+    rows(s);
+    several_in_graph(g);
+    several_in_set(s);
     ring(c);
     readings(g, s);
 }
