@@ -104,7 +104,7 @@ zeros-at zero u h = absurd (omega arith)
 zeros-at (suc n) zero h = refl
 zeros-at (suc n) (suc u) h = zeros-at n u (omega arith)
 
-pub words-of : (s : List ℕ) → headerOf s .n ≤ 32 → WordsOf (setOf s) (neighbourWords s)
+pub words-of : (s : List ℕ) → headerOf s .n ≤ 32 → WordsOf (setOf s) (neighbourWords s (headerOf s .m))
 unfolding neighbourWords setOf joins
 words-of s few =
     record {
@@ -119,10 +119,10 @@ words-of s few =
 
 -- ---- isolated nodes
 
-pub isolated-word-is : (s : List ℕ) (i : ℕ) → 1 ≤ headerOf s .k → 1 ≤ i → word (homeIs s i) (headerOf s .n) ≡ isolatedWord (setOf s) i
+pub isolated-word-is : (s : List ℕ) (i : ℕ) → 1 ≤ headerOf s .k → 1 ≤ i → word (homeIs s (headerOf s) i) (headerOf s .n) ≡ isolatedWord (setOf s) i
 unfolding homeIs isolatedWord isolated home setOf
 isolated-word-is s i hk hi =
-    word-ext (homeIs s i) (isolated (setOf s) i) (headerOf s .n)
+    word-ext (homeIs s (headerOf s) i) (isolated (setOf s) i) (headerOf s .n)
     (λ v l. ap₂ (λ (p : Bool) (x : ℕ). p && eqb x i) (sym (le-leb 1 i hi)) (sym (getD-upTo (homeTopology s (headerOf s)) (homeRecords (headerOf s)) v 0 (let e = homes-all (headerOf s) hk in omega arith))))
 
 -- ---- an accepted file
@@ -135,3 +135,6 @@ accepted-ends s e =
 
 pub accepted-few : (s : List ℕ) → judge s ≡ Accepted → headerOf s .n ≤ 32
 accepted-few s e = file-meets s e .header .limits .nodes .1
+
+pub accepted-some : (s : List ℕ) → judge s ≡ Accepted → 3 ≤ headerOf s .n
+accepted-some s e = file-meets s e .header .limits .nodes .0

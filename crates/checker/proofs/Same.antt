@@ -163,8 +163,8 @@ module _ (S : Set) (i : ℕ) (nb : List ℕ) (W : WordsOf S nb) where
       go : (t : Bool) → any (backbone S i) (S .net .n) ≡ t → (not (eqb bb 0) && eqb (reachedWord nb bb (lowestIn bb)) bb) ≡ (any (backbone S i) (S .net .n) && all covered (S .net .n))
       go false e =
           let z : bb ≡ 0 =
-                has-ext 32 bb 0 (backbone-fits S i (W .few)) (omega arith)
-                (λ v l. has-backbone S i (W .few) v ∙ false-of (backbone S i v) (λ b. clash (any (backbone S i) (S .net .n)) (any-of (backbone S i) (S .net .n) v (backbone-node S i (W .few) v b) b) e) ∙ sym (has-none v)) in
+          has-ext 32 bb 0 (backbone-fits S i (W .few)) (omega arith)
+          (λ v l. has-backbone S i (W .few) v ∙ false-of (backbone S i v) (λ b. clash (any (backbone S i) (S .net .n)) (any-of (backbone S i) (S .net .n) v (backbone-node S i (W .few) v b) b) e) ∙ sym (has-none v)) in
           rw (e, z)
       go true e = rw (e, ne-eqb bb 0 there) (same-test (eqb (reachedWord nb bb (lowestIn bb)) bb) (all covered (S .net .n)) down up)
         where

@@ -72,7 +72,7 @@ module _ (s : List ℕ) where
   -- the class of a link whose ends have home records
   pub class-held : (j l : ℕ) → l < headerOf s .m → endA s l < homeRecords (headerOf s) → endB s l < homeRecords (headerOf s)
       → class (setOf s) (suc j) l
-          ≡ classBy (eqb (homeTopology s (headerOf s) (endA s l)) (suc j)) (eqb (homeTopology s (headerOf s) (endB s l)) (suc j))
+      ≡ classBy (eqb (homeTopology s (headerOf s) (endA s l)) (suc j)) (eqb (homeTopology s (headerOf s) (endB s l)) (suc j))
   unfolding class
   class-held j l h p q =
       ap₂ classBy (ap (isolated (setOf s) (suc j)) (a-held l h) ∙ isolated-by-home (setOf s) j (endA s l) ∙ ap (λ (x : ℕ). eqb x (suc j)) (home-held (endA s l) p))

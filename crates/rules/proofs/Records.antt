@@ -44,13 +44,15 @@ counts-ok h rest e =
     let p5 = need-ok _ _ _ (p4 .1) in
     let p6 = need-ok _ _ _ (p5 .1) in
     let p7 = need-ok _ _ _ (p6 .1) in
-    let p8 = need-ok _ _ _ (p7 .1) in
-    (record {
-      nodes = (leb-true _ _ (p1 .0), leb-true _ _ (p2 .0));
-      links = (leb-true _ _ (p3 .0), leb-true _ _ (p4 .0));
-      topologies = (leb-true _ _ (p5 .0), leb-true _ _ (p6 .0));
-      weights = (leb-true _ _ (p7 .0), leb-true _ _ (p8 .0));
-    }, p8 .1)
+    let p8 = need-ok _ _ _ (p7 .1) in (
+      record {
+        nodes = (leb-true _ _ (p1 .0), leb-true _ _ (p2 .0));
+        links = (leb-true _ _ (p3 .0), leb-true _ _ (p4 .0));
+        topologies = (leb-true _ _ (p5 .0), leb-true _ _ (p6 .0));
+        weights = (leb-true _ _ (p7 .0), leb-true _ _ (p8 .0));
+      },
+      p8 .1,
+    )
 
 pub counts-on : (h : Network) (rest : ℕ) → WithinLimits h → needCounts h rest ≡ rest
 unfolding needCounts
