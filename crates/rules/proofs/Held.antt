@@ -2,14 +2,14 @@
 use mathlib.Core.Path.{_≡_, refl, sym, ap, ap₂, _∙_}
 use mathlib.Core.Bool.{Bool, true, false, _&&_}
 use mathlib.Core.List.{List}
-use Prim.Native.Nat.{ℕ, zero, suc, _+_, _-_, _*_, _≤_, _<_}
+use Prim.Native.Nat.{ℕ, suc, _+_, _-_, _*_, _≤_, _<_}
 use native.Mathlib.Omega.{arith}
-use lib.Dec.{eqb, leb}
+use lib.Dec.{eqb}
 use lib.ListN.{length, getD, take, drop}
 use lib.Seq.{getD-take, getD-drop}
 use borrow.Author.Tests.{le-leb, ne-eqb}
 use Rattle.rules.specs.declared.Network.{Network}
-use Rattle.rules.specs.Basics.{if_then_else_, upTo, flat}
+use Rattle.rules.specs.Basics.{if_then_else_, need, upTo}
 use Rattle.rules.specs.Limits.{homeRecords, rowWeights}
 use Rattle.rules.specs.File.{Set, rowStart, headerOf, endA, endB, linkWeight, homeTopology, rowWeight, setOf}
 use Rattle.rules.specs.Isolation.{home, isolated, classBy, class, rowInForce}
@@ -22,6 +22,15 @@ use Rattle.rules.proofs.Rows.{length-upTo, getD-upTo, length-flat, getD
 pub homes-all : (h : Network) → 1 ≤ h .k → homeRecords h ≡ h .n
 unfolding homeRecords
 homes-all h l = sym (need-eq-no (h .k) 0 (h .n) 0 (h .n) (λ e. omega arith) refl)
+
+need-most : (t : Bool) (x : ℕ) → need t x 0 ≤ x
+unfolding need
+need-most true x = omega arith
+need-most false x = omega arith
+
+pub homes-most : (h : Network) → homeRecords h ≤ h .n
+unfolding homeRecords
+homes-most h = need-most (eqb (h .k) 0) (h .n)
 
 -- a node is isolated in topology j + 1 exactly if that is its home
 pub isolated-by-home : (S : Set) (j v : ℕ) → isolated S (suc j) v ≡ eqb (home S v) (suc j)

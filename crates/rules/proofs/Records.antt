@@ -1,21 +1,19 @@
 -- The rules of a file's records, number by number: a record's number is 0 exactly where its rules hold.
-use mathlib.Core.Path.{_≡_, refl, sym, ap, _∙_}
+use mathlib.Core.Path.{_≡_, refl, sym, _∙_}
 use mathlib.Core.Logic.{_⊎_, inl, inr}
-use mathlib.Core.Bool.{Bool, true, false, _&&_, _||_}
+use mathlib.Core.Bool.{true, _&&_}
 use mathlib.Core.List.{List}
-use Prim.Native.Nat.{ℕ, zero, suc, _+_, _*_, _≤_, _<_}
+use Prim.Native.Nat.{ℕ, suc, _≤_, _<_}
 use native.Mathlib.Omega.{arith}
 use lib.Dec.{eqb, ltb, leb}
-use lib.ListN.{length, getD}
+use lib.ListN.{length}
 use borrow.Author.Tests.{ltb-true, leb-true, eqb-true, lt-ltb, le-leb, eq-eqb}
 use Rattle.rules.specs.declared.Network.{Network}
-use Rattle.rules.specs.declared.Verdict.{Verdict}
-use Rattle.rules.specs.declared.Verdict.the-variants.{Accepted, Refused}
-use Rattle.rules.specs.Basics.{need, all}
+use Rattle.rules.specs.declared.Verdict.the-variants.{Accepted}
 use Rattle.rules.specs.Limits.{needCounts, homeRecords, linkPlace, homePlace, rowPlace, fileLength}
 use Rattle.rules.specs.File.{headerOf, endA, endB, linkWeight, homeNode, homeTopology, rowTopology}
 use Rattle.rules.specs.Isolation.{Class, Normal, Restricted, Isolated, weightFits}
-use Rattle.rules.specs.Judgement.{refuse, inTurn, andThen, needMark, headerNumber, after, rises, linkNumber, homeNumber, rowWeightFits, rowNumber, records, judge}
+use Rattle.rules.specs.Judgement.{refuse, inTurn, needMark, headerNumber, after, rises, linkNumber, homeNumber, rowWeightFits, rowNumber, records, judge}
 use Rattle.rules.specs.Demands.{WithinLimits}
 use Rattle.rules.proofs.Choices.{and-of, and-left, and-right, or-left, or-right, or-cases, need-ok, need-yes, numbers, refuse-ok, refuse-zero, then-ok, then-first, then-second, turn-all, turn-each}
 use Rattle.rules.proofs.Numbers.{all-at, all-of}
