@@ -12,3 +12,12 @@ pub mod Same
 pub mod Determined
 pub mod Order
 pub mod Examples
+pub mod Walks
+pub mod Connected
+pub mod Sound
+pub mod Removal
+pub mod FirstFit
+pub mod Built
+pub mod BuildNumber
+pub mod Checked
+pub mod BuildAnswers

@@ -19,6 +19,11 @@ pub eight-next : (S : Set) (i : ℕ) → connected S i ≡ true → twoLinks S i
 unfolding topologyNumber need
 eight-next S i e d = rw (e, d)
 
+-- no number where neither rule fails
+pub no-number : (S : Set) (i : ℕ) → connected S i ≡ true → twoLinks S i ≡ true → topologyNumber S i ≡ 0
+unfolding topologyNumber need
+no-number S i e d = rw (e, d)
+
 -- a restricted link outweighs any path that passes each link once at most: all links together, each at wmax
 pub restricted-outweighs : (h : Network) → 1 ≤ h .m → 1 ≤ h .wmax → h .m * h .wmax < restrictedWeight h
 unfolding restrictedWeight

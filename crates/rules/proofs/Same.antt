@@ -73,7 +73,7 @@ unfolding readTells tell
 read-verdict Accepted h g e = (refl, header-one h g (cc))
 read-verdict (Refused number place) h g e = let z : _≡_ {A = ℕ} 0 1 = cc in absurd (omega arith)
 
-length-verdict : (v : Verdict) (bytes held : ℕ) → lengthTells (long.Length bytes) ≡ tell v (held ∷ []) → (v ≡ Accepted) × (bytes ≡ held)
+pub length-verdict : (v : Verdict) (bytes held : ℕ) → lengthTells (long.Length bytes) ≡ tell v (held ∷ []) → (v ≡ Accepted) × (bytes ≡ held)
 unfolding lengthTells tell
 length-verdict Accepted bytes held e = (refl, cc)
 length-verdict (Refused number place) bytes held e = let z : _≡_ {A = ℕ} 0 1 = cc in absurd (omega arith)
