@@ -126,7 +126,7 @@ pub fn topology_number(nb: &[u32], n: u8, iso: u32) -> u8
 // ---- words from a file's bytes
 
 // y comes into x's word.
-fn enter(nb: &mut [u32; 32], x: u8, y: u8)
+pub fn enter(nb: &mut [u32; 32], x: u8, y: u8)
     requires { ⌜ x < 32 ⌝ }
     requires { ⌜ y < 32 ⌝ }
     ensures { λ _. ⌜ now (nb .exit) ≡ entered (now (nb .entry)) x y ⌝ }

@@ -1,0 +1,3 @@
+-- What the proofs of the stores (`Stored`) and of first fit (`Placing`) cite.
+pub mod Stored
+pub mod Placing

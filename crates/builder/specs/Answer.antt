@@ -1,0 +1,16 @@
+-- What a part of the builder answers and leaves: as an entry's promise, for the verdict of that part.
+use mathlib.Core.Path.{_≡_}
+use mathlib.Core.List.{List, [], _∷_}
+use Prim.Native.Nat.{ℕ}
+use Rattle.rules.specs.declared.Verdict.{Verdict}
+use Rattle.rules.specs.declared.LengthAnswer.{LengthAnswer}
+use Rattle.rules.specs.Basics.{laid}
+use Rattle.rules.specs.Limits.{fileLength}
+use Rattle.rules.specs.File.{Set, encode}
+use Rattle.rules.specs.Answers.{tell, lengthTells}
+use Rattle.rules.specs.Entries.{onAccept}
+
+-- by verdict v: the set's bytes at the front of the file and their length, or the refusal and the file as it came
+pub record Gives (v : Verdict) (S : Set) (before : List ℕ) (r : LengthAnswer) (after : List ℕ) : Type 0 where
+  pub answer : lengthTells r ≡ tell v (fileLength (S .net) ∷ [])
+  pub lent : after ≡ onAccept v (laid (encode S) before) before
