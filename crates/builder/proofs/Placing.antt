@@ -67,7 +67,7 @@ isos-none n few =
     off false = refl
 
 -- with v at home in i, i's word has v too, and no other word changes
-isolated-adding : (homes : List ℕ) (n v i : ℕ) → n ≤ 32 → v < n → length homes ≡ n → adding (isolatedBy homes n i) v ≡ isolatedBy (set homes v i) n i
+pub isolated-adding : (homes : List ℕ) (n v i : ℕ) → n ≤ 32 → v < n → length homes ≡ n → adding (isolatedBy homes n i) v ≡ isolatedBy (set homes v i) n i
 unfolding isolatedBy
 isolated-adding homes n v i few l long =
     has-ext 32 (adding (word p n) v) (word q n) (adding-fits (word p n) v (word-fits p n few) (omega arith)) (word-fits q n few)

@@ -18,6 +18,7 @@ use Rattle.rules.specs.Judgement.{judge}
 use Rattle.rules.proofs.Choices.{and-of, and-left, and-right, or-left, or-right, or-cases, clash, false-of, same-test}
 use Rattle.rules.proofs.Numbers.{any-at, any-of, any-ext, lowest-found, lowest-none}
 use Rattle.rules.proofs.Rows.{getD-upTo}
+use Rattle.rules.proofs.Removal.{homeless-at}
 use Rattle.rules.proofs.Held.{homes-all}
 use Rattle.rules.proofs.Records.{FileMeets, file-meets}
 use Rattle.words.specs.Word.{has, adding}
@@ -99,11 +100,6 @@ neighbours-any S u w = go (any (λ l. joins S l u w) (S .net .m)) refl
         let z = lowest-none (λ l. joins S l u w) (S .net .m) (S .net .m) (λ l h. false-of (joins S l u w) (λ q. clash (any (λ l. joins S l u w) (S .net .m)) (any-of (λ l. joins S l u w) (S .net .m) l h q) e)) in
         le-ltb _ (S .net .m) (omega (arith, z)) ∙ sym e
 
-zeros-at : (n u : ℕ) → u < n → _≡_ {A = ℕ} (getD (replicate n 0) u 0) 0
-zeros-at zero u h = absurd (omega arith)
-zeros-at (suc n) zero h = refl
-zeros-at (suc n) (suc u) h = zeros-at n u (omega arith)
-
 pub words-of : (s : List ℕ) → headerOf s .n ≤ 32 → WordsOf (setOf s) (neighbourWords s (headerOf s .m))
 unfolding neighbourWords setOf joins
 words-of s few =
@@ -111,7 +107,7 @@ words-of s few =
       few = few;
       each = λ u w l.
           has-linked (endA s) (endB s) (replicate 32 0) u w (headerOf s .m) (let e = length-replicate {A = ℕ} 32 0 in omega arith)
-          ∙ ap (λ (t : Bool). t || any (between (endA s) (endB s) u w) (headerOf s .m)) (ap (λ (x : ℕ). has x w) (zeros-at 32 u l) ∙ has-none w)
+          ∙ ap (λ (t : Bool). t || any (between (endA s) (endB s) u w) (headerOf s .m)) (ap (λ (x : ℕ). has x w) (homeless-at 32 u) ∙ has-none w)
           ∙ any-ext (between (endA s) (endB s) u w) (λ k. joins (setOf s) k u w) (headerOf s .m)
           (λ k h. ap₂ (λ (x y : ℕ). (eqb x u && eqb y w) || (eqb x w && eqb y u)) (sym (getD-upTo (endA s) (headerOf s .m) k 0 h)) (sym (getD-upTo (endB s) (headerOf s .m) k 0 h)))
           ∙ sym (neighbours-any (setOf s) u w);
