@@ -3,3 +3,4 @@ pub mod Stored
 pub mod Placing
 pub mod Written
 pub mod Fitted
+pub mod Answers

@@ -193,11 +193,11 @@ placing-more nb homes isos new n cap v i t P T few lv small h ea p e =
     go q u l false z = let ne = eqb-false u v z in P .each u (omega arith)
 
 pub placed-all : (nb homes isos : List ℕ) (n cap v : ℕ) → Placing nb n cap homes isos v → v ≤ n → n ≤ v → Placed nb n cap homes v
-placed-all nb homes isos n cap v P h g = record { within = h; homes-are = P .homes-are; each = P .each; passed = λ l. absurd (omega arith) }
+placed-all nb homes isos n cap v P h g = record { within = h; long = P .long; homes-are = P .homes-are; each = P .each; passed = λ l. absurd (omega arith) }
 
 pub placed-part : (nb homes isos : List ℕ) (n cap v i : ℕ) → Placing nb n cap homes isos v → v ≤ n → Tried nb n cap homes v i → cap < i → Placed nb n cap homes v
 placed-part nb homes isos n cap v i P h T g =
-    record { within = h; homes-are = P .homes-are; each = P .each; passed = λ l. rw (← P .homes-are) (tried-out nb homes n cap v i T g) }
+    record { within = h; long = P .long; homes-are = P .homes-are; each = P .each; passed = λ l. rw (← P .homes-are) (tried-out nb homes n cap v i T g) }
 
 -- ---- highest
 

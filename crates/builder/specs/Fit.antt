@@ -4,7 +4,7 @@ use mathlib.Core.Bool.{Bool}
 use mathlib.Core.List.{List}
 use Prim.Native.Nat.{ℕ, zero, suc, _+_, _-_, _≤_, _<_}
 use lib.Dec.{eqb}
-use lib.ListN.{getD, set, replicate}
+use lib.ListN.{length, getD, set, replicate}
 use Rattle.rules.specs.Basics.{all, lowest}
 use Rattle.rules.specs.Isolation.{word}
 use Rattle.words.specs.Word.{adding, only}
@@ -41,6 +41,7 @@ homesBy nb n cap (suc v) = set (homesBy nb n cap v) v (firstBy nb n cap (homesBy
 -- the first r nodes have their homes, and where r is not all of them the next one finds none
 pub record Placed (nb : List ℕ) (n cap : ℕ) (homes : List ℕ) (r : ℕ) : Type 0 where
   pub within : r ≤ n
+  pub long : length homes ≡ n
   pub homes-are : homes ≡ homesBy nb n cap r
   pub each : (v : ℕ) → v < r → firstBy nb n cap (homesBy nb n cap v) v ≤ cap
   pub passed : r < n → cap < firstBy nb n cap (homesBy nb n cap r) r

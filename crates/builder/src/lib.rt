@@ -259,7 +259,6 @@ fn put_row(graph: &[u8], homes: &[u8], file: &mut [u8], m: u16, at: usize, i: u8
 }
 
 fn put_rows(graph: &[u8], homes: &[u8], file: &mut [u8], net: Network, k: u8)
-    requires { ⌜ k ≤ 32 ⌝ }
     ensures { λ _. ⌜ now (file .exit) ≡ storedRows (now (graph .entry)) (now (homes .entry)) net k (now (file .entry)) ⌝ }
 {
     let mut j: u8 = 0;
@@ -272,7 +271,6 @@ fn put_rows(graph: &[u8], homes: &[u8], file: &mut [u8], net: Network, k: u8)
 
 // The whole file of the set with these counts, homes and rows filled by class.
 fn put_set(graph: &[u8], homes: &[u8], file: &mut [u8], net: Network)
-    requires { ⌜ net .k ≤ 32 ⌝ }
     ensures { λ _. ⌜ now (file .exit) ≡ storedSet (now (graph .entry)) (now (homes .entry)) net (now (file .entry)) ⌝ }
 {
     put_header(file, net);
@@ -280,4 +278,126 @@ fn put_set(graph: &[u8], homes: &[u8], file: &mut [u8], net: Network)
     let count = home_records(net) as u8;
     put_homes(homes, file, net, count);
     put_rows(graph, homes, file, net, net.k);
+}
+
+// ---- the answer
+
+// The set with these homes, written where the file has room for it.
+fn finish(graph: &[u8], net: Network, homes: &[u8], file: &mut [u8]) -> LengthAnswer
+    requires { ⌜ net ≡ headerOf (now graph) ⌝ }
+    requires { ⌜ length (now homes) ≡ net .n ⌝ }
+    ensures { λ r. ⌜ Gives (needRoom (fileLength (filled (setOf (now (graph .entry))) (now (homes .entry)) .net)) (now (file .entry))) (filled (setOf (now (graph .entry))) (now (homes .entry))) (now (file .entry)) r (now (file .exit)) ⌝ }
+{
+    let k = highest(homes);
+    let set = Network::header(net.n, net.m, k, net.wmax);
+    let long = file_length(set);
+    if file.len() < long {
+        return LengthAnswer::Refused {
+            number: 14,
+            place: 0,
+        };
+    }
+    put_set(graph, homes, file, set);
+    LengthAnswer::Length(long)
+}
+
+// First fit, then the file.
+fn fit(graph: &[u8], net: Network, cap: u8, nb: &[u32], homes: &mut [u8], file: &mut [u8]) -> LengthAnswer
+    requires { ⌜ judge (now graph) ≡ Accepted ⌝ }
+    requires { ⌜ net ≡ headerOf (now graph) ⌝ }
+    requires { ⌜ cap ≤ 32 ⌝ }
+    requires { ⌜ now nb ≡ neighbourWords (now graph) (net .m) ⌝ }
+    requires { ⌜ now homes ≡ replicate (net .n) 0 ⌝ }
+    ensures { λ r. ⌜ Gives (andThen (refuse (need (fits (setOf (now (graph .entry))) cap) 10 0) 0) (needRoom (fileLength (built (setOf (now (graph .entry))) cap .net)) (now (file .entry)))) (built (setOf (now (graph .entry))) cap) (now (file .entry)) r (now (file .exit)) ⌝ }
+{
+    let placed = first_fit(nb, net.n, cap, homes);
+    if placed < net.n {
+        return LengthAnswer::Refused {
+            number: 10,
+            place: 0,
+        };
+    }
+    finish(graph, net, homes, file)
+}
+
+// First fit in room of its own, one home for each node.
+fn fit_nodes(graph: &[u8], net: Network, cap: u8, nb: &[u32], file: &mut [u8]) -> LengthAnswer
+    requires { ⌜ judge (now graph) ≡ Accepted ⌝ }
+    requires { ⌜ net ≡ headerOf (now graph) ⌝ }
+    requires { ⌜ net .n ≤ 32 ⌝ }
+    requires { ⌜ cap ≤ 32 ⌝ }
+    requires { ⌜ now nb ≡ neighbourWords (now graph) (net .m) ⌝ }
+    ensures { λ r. ⌜ Gives (andThen (refuse (need (fits (setOf (now (graph .entry))) cap) 10 0) 0) (needRoom (fileLength (built (setOf (now (graph .entry))) cap .net)) (now (file .entry)))) (built (setOf (now (graph .entry))) cap) (now (file .entry)) r (now (file .exit)) ⌝ }
+{
+    let mut homes = [0u8; 32];
+    let n = net.n as usize;
+    fit(graph, net, cap, nb, &mut homes[..n], file)
+}
+
+// The set of a graph that is accepted, with a cap that is.
+fn build_graph(graph: &[u8], cap: u8, file: &mut [u8]) -> LengthAnswer
+    requires { ⌜ judge (now graph) ≡ Accepted ⌝ }
+    requires { ⌜ cap ≤ 32 ⌝ }
+    ensures { λ r. ⌜ Gives (andThen (needFit (setOf (now (graph .entry))) cap) (needRoom (fileLength (built (setOf (now (graph .entry))) cap .net)) (now (file .entry)))) (built (setOf (now (graph .entry))) cap) (now (file .entry)) r (now (file .exit)) ⌝ }
+{
+    let net = header(graph);
+    let nb = neighbour_words(graph, net.m);
+    let whole = all_spared(&nb, net.n);
+    if whole {
+        return fit_nodes(graph, net, cap, &nb, file);
+    }
+    LengthAnswer::Refused {
+        number: 9,
+        place: 0,
+    }
+}
+
+// A graph alone is needed (13), and a cap of 1 to 32 (11).
+fn cap_verdict(net: Network, cap: u8) -> Verdict
+    ensures { λ r. ⌜ r ≡ andThen (needGraph net) (needCap cap) ⌝ }
+{
+    if net.k != 0 {
+        return Verdict::Refused {
+            number: 13,
+            place: 0,
+        };
+    }
+    if cap < 1 {
+        return Verdict::Refused {
+            number: 11,
+            place: 0,
+        };
+    }
+    if cap > Network::MAX_CAP {
+        return Verdict::Refused {
+            number: 11,
+            place: 0,
+        };
+    }
+    Verdict::Accepted
+}
+
+// What is refused before anything is built: 1 to 6, 13, 11.
+fn input_verdict(graph: &[u8], cap: u8) -> Verdict
+    ensures { λ r. ⌜ r ≡ andThen (judge (now (graph .entry))) (andThen (needGraph (headerOf (now (graph .entry)))) (needCap cap)) ⌝ }
+{
+    let v = judge(graph);
+    match v {
+        Verdict::Accepted => cap_verdict(header(graph), cap),
+        Verdict::Refused {
+            number: _,
+            place: _,
+        } => v,
+    }
+}
+
+// The entry: a set for a graph with at most so many topologies, into a lent file.
+pub fn build(graph: &[u8], cap: u8, file: &mut [u8]) -> LengthAnswer
+    ensures { λ r. ⌜ Promise buildEntry (record { file = now (graph .entry); cap = cap }) (now (file .entry)) r (now (file .exit)) ⌝ }
+{
+    let v = input_verdict(graph, cap);
+    match v {
+        Verdict::Accepted => build_graph(graph, cap, file),
+        Verdict::Refused { number, place } => LengthAnswer::Refused { number, place },
+    }
 }
