@@ -148,7 +148,7 @@ module _ (nb homes : List ℕ) (n cap v i : ℕ) (T : Tried nb n cap homes v i) 
       let low = T .low in
       let s : suc (i - 1) ≡ i = omega arith in
       let f : lowest (λ j. admitsBy nb n homes (suc j) v) cap cap ≡ i - 1 =
-            lowest-one (λ j. admitsBy nb n homes (suc j) v) cap cap (i - 1) (omega arith) (ap (λ (x : ℕ). admitsBy nb n homes x v) s ∙ e) (λ j l. T .none j (omega arith)) in
+      lowest-one (λ j. admitsBy nb n homes (suc j) v) cap cap (i - 1) (omega arith) (ap (λ (x : ℕ). admitsBy nb n homes x v) s ∙ e) (λ j l. T .none j (omega arith)) in
       omega arith
 
   tried-out : cap < i → cap < firstBy nb n cap homes v

@@ -18,12 +18,12 @@ use words::lowest;
 use words::minus;
 use words::only;
 use words::put;
-use words::two;
+use words::size;
 ghost use mathlib.Core.Path.{_≡_};
 ghost use mathlib.Core.Bool.{true};
-ghost use Prim.Native.Nat.{ℕ, _+_, _<_, _≤_};
-ghost use lib.ListN.{length, getD};
-ghost use Rattle.rules.specs.declared.Verdict.the-variants.{Accepted, Refused};
+ghost use Prim.Native.Nat.{_<_, _≤_};
+ghost use lib.ListN.{getD};
+ghost use Rattle.rules.specs.declared.Verdict.the-variants.{Accepted};
 ghost use Rattle.rules.specs.File.{headerOf, setOf};
 ghost use Rattle.rules.specs.Isolation.{word};
 ghost use Rattle.rules.specs.Judgement.{judge, needSet, topologies, andThen, check};
@@ -85,7 +85,7 @@ fn served(nb: &[u32], iso: u32, bb: u32, v: u8) -> bool
     ensures { λ r. ⌜ r ≡ servedBy (now (nb .entry)) iso bb v ⌝ }
 {
     if has(iso, v) {
-        return two(both(word_at(nb, v), bb));
+        return size(both(word_at(nb, v), bb)) >= 2;
     }
     true
 }
