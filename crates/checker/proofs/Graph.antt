@@ -1,0 +1,136 @@
+-- The words gathered from a file's bytes are the neighbours and the isolated nodes of the set that it holds.
+use mathlib.Core.Path.{_≡_, refl, sym, ap, ap₂, _∙_}
+use mathlib.Core.Bool.{Bool, true, false, not, _&&_, _||_}
+use mathlib.Core.List.{List}
+use Prim.Native.Nat.{ℕ, zero, suc, _+_, _^_, _≤_, _<_}
+use native.Mathlib.Omega.{arith}
+use lib.Dec.{eqb, ltb, leb}
+use lib.ListN.{length, getD, set, replicate, length-set, length-replicate}
+use lib.Seq.{getD-set-same, getD-set-other, set-out}
+use borrow.Author.Tests.{eqb-true, eqb-false, eq-eqb, ne-eqb, ltb-true, ltb-false, lt-ltb, le-ltb, le-leb}
+use Rattle.rules.specs.declared.Network.{Network}
+use Rattle.rules.specs.declared.Verdict.the-variants.{Accepted, Refused}
+use Rattle.rules.specs.Basics.{any, lowest, upTo}
+use Rattle.rules.specs.Limits.{homeRecords}
+use Rattle.rules.specs.File.{Set, setOf, headerOf, endA, endB, homeTopology}
+use Rattle.rules.specs.Isolation.{joins, linkBetween, neighbours, home, isolated, isolatedWord, word}
+use Rattle.rules.specs.Judgement.{judge}
+use Rattle.rules.proofs.Choices.{and-of, and-left, and-right, or-left, or-right, or-cases, clash, false-of, same-test}
+use Rattle.rules.proofs.Numbers.{any-at, any-of, any-ext, lowest-found, lowest-none}
+use Rattle.rules.proofs.Rows.{getD-upTo}
+use Rattle.rules.proofs.Removal.{homeless-at}
+use Rattle.rules.proofs.Held.{homes-all}
+use Rattle.rules.proofs.Records.{FileMeets, file-meets}
+use Rattle.words.specs.Word.{has, adding}
+use Rattle.words.proofs.Members.{has-none, has-adding, word-ext}
+use Rattle.checker.specs.Graph.{entered, linked, neighbourWords, homeIs, Ends}
+use Rattle.checker.proofs.Same.{WordsOf}
+
+-- ---- who is in the words
+
+same-eqb : (x y : ℕ) → eqb x y ≡ eqb y x
+same-eqb x y = same-test (eqb x y) (eqb y x) (λ e. eq-eqb y x (sym (eqb-true x y e))) (λ e. eq-eqb x y (sym (eqb-true y x e)))
+
+pub length-entered : (nb : List ℕ) (x y : ℕ) → length (entered nb x y) ≡ length nb
+unfolding entered
+length-entered nb x y = length-set nb x (adding (getD nb x 0) y)
+
+pub length-linked : (A B : ℕ → ℕ) (nb : List ℕ) (l : ℕ) → length (linked A B nb l) ≡ length nb
+unfolding linked
+length-linked A B nb zero = refl
+length-linked A B nb (suc l) =
+    length-entered (entered (linked A B nb l) (A l) (B l)) (B l) (A l) ∙ length-entered (linked A B nb l) (A l) (B l) ∙ length-linked A B nb l
+
+has-entered : (nb : List ℕ) (x y u v : ℕ) → u < length nb → has (getD (entered nb x y) u 0) v ≡ (has (getD nb u 0) v || (eqb x u && eqb y v))
+unfolding entered
+has-entered nb x y u v h = go (eqb x u) refl
+  where
+    none : (p : Bool) → p ≡ (p || false)
+    none true = refl
+    none false = refl
+
+    go : (t : Bool) → eqb x u ≡ t → has (getD (set nb x (adding (getD nb x 0) y)) u 0) v ≡ (has (getD nb u 0) v || (eqb x u && eqb y v))
+    go true e =
+        let q = eqb-true x u e in
+        rw (e, q) (ap (λ (w : ℕ). has w v) (getD-set-same nb u (adding (getD nb u 0) y) 0 h) ∙ has-adding (getD nb u 0) y v ∙ ap (λ (t : Bool). has (getD nb u 0) v || t) (same-eqb v y))
+    go false e =
+        let q = eqb-false x u e in
+        rw e (ap (λ (w : ℕ). has w v) (getD-set-other nb x u (adding (getD nb x 0) y) 0 (λ z. q (sym z))) ∙ none (has (getD nb u 0) v))
+
+-- link l joins u and v, by its ends
+abbrev pub between : (ℕ → ℕ) → (ℕ → ℕ) → ℕ → ℕ → ℕ → Bool
+between A B u v l = (eqb (A l) u && eqb (B l) v) || (eqb (A l) v && eqb (B l) u)
+
+pub has-linked : (A B : ℕ → ℕ) (nb : List ℕ) (u v m : ℕ) → u < length nb → has (getD (linked A B nb m) u 0) v ≡ (has (getD nb u 0) v || any (between A B u v) m)
+unfolding linked any
+has-linked A B nb u v zero h = none (has (getD nb u 0) v)
+  where
+    none : (p : Bool) → p ≡ (p || false)
+    none true = refl
+    none false = refl
+has-linked A B nb u v (suc l) h =
+    let e = length-linked A B nb l in
+    let f = length-entered (linked A B nb l) (A l) (B l) in
+    has-entered (entered (linked A B nb l) (A l) (B l)) (B l) (A l) u v (omega arith)
+    ∙ ap (λ (t : Bool). t || (eqb (B l) u && eqb (A l) v)) (has-entered (linked A B nb l) (A l) (B l) u v (omega arith) ∙ ap (λ (t : Bool). t || (eqb (A l) u && eqb (B l) v)) (has-linked A B nb u v l h))
+    ∙ shuffle (has (getD nb u 0) v) (any (between A B u v) l) (eqb (A l) u && eqb (B l) v) (eqb (B l) u) (eqb (A l) v)
+  where
+    shuffle : (p q r s t : Bool) → (((p || q) || r) || (s && t)) ≡ (p || (q || (r || (t && s))))
+    shuffle true q r s t = refl
+    shuffle false true r s t = refl
+    shuffle false false true s t = refl
+    shuffle false false false true true = refl
+    shuffle false false false true false = refl
+    shuffle false false false false true = refl
+    shuffle false false false false false = refl
+
+-- ---- neighbours
+
+-- two nodes are neighbours exactly where some link joins them
+pub neighbours-any : (S : Set) (u w : ℕ) → neighbours S u w ≡ any (λ l. joins S l u w) (S .net .m)
+unfolding neighbours linkBetween
+neighbours-any S u w = go (any (λ l. joins S l u w) (S .net .m)) refl
+  where
+    go : (t : Bool) → any (λ l. joins S l u w) (S .net .m) ≡ t → ltb (lowest (λ l. joins S l u w) (S .net .m) (S .net .m)) (S .net .m) ≡ any (λ l. joins S l u w) (S .net .m)
+    go true e =
+        let s = any-at (λ l. joins S l u w) (S .net .m) e in
+        let f = lowest-found (λ l. joins S l u w) (S .net .m) (S .net .m) (s .0) (s .1) (s .2) in
+        lt-ltb _ (S .net .m) (omega (arith, s .1, f .0)) ∙ sym e
+    go false e =
+        let z = lowest-none (λ l. joins S l u w) (S .net .m) (S .net .m) (λ l h. false-of (joins S l u w) (λ q. clash (any (λ l. joins S l u w) (S .net .m)) (any-of (λ l. joins S l u w) (S .net .m) l h q) e)) in
+        le-ltb _ (S .net .m) (omega (arith, z)) ∙ sym e
+
+pub words-of : (s : List ℕ) → headerOf s .n ≤ 32 → WordsOf (setOf s) (neighbourWords s (headerOf s .m))
+unfolding neighbourWords setOf joins
+words-of s few =
+    record {
+      few = few;
+      each = λ u w l.
+          has-linked (endA s) (endB s) (replicate 32 0) u w (headerOf s .m) (let e = length-replicate {A = ℕ} 32 0 in omega arith)
+          ∙ ap (λ (t : Bool). t || any (between (endA s) (endB s) u w) (headerOf s .m)) (ap (λ (x : ℕ). has x w) (homeless-at 32 u) ∙ has-none w)
+          ∙ any-ext (between (endA s) (endB s) u w) (λ k. joins (setOf s) k u w) (headerOf s .m)
+          (λ k h. ap₂ (λ (x y : ℕ). (eqb x u && eqb y w) || (eqb x w && eqb y u)) (sym (getD-upTo (endA s) (headerOf s .m) k 0 h)) (sym (getD-upTo (endB s) (headerOf s .m) k 0 h)))
+          ∙ sym (neighbours-any (setOf s) u w);
+    }
+
+-- ---- isolated nodes
+
+pub isolated-word-is : (s : List ℕ) (i : ℕ) → 1 ≤ headerOf s .k → 1 ≤ i → word (homeIs s (headerOf s) i) (headerOf s .n) ≡ isolatedWord (setOf s) i
+unfolding homeIs isolatedWord isolated home setOf
+isolated-word-is s i hk hi =
+    word-ext (homeIs s (headerOf s) i) (isolated (setOf s) i) (headerOf s .n)
+    (λ v l. ap₂ (λ (p : Bool) (x : ℕ). p && eqb x i) (sym (le-leb 1 i hi)) (sym (getD-upTo (homeTopology s (headerOf s)) (homeRecords (headerOf s)) v 0 (let e = homes-all (headerOf s) hk in omega arith))))
+
+-- ---- an accepted file
+
+pub accepted-ends : (s : List ℕ) → judge s ≡ Accepted → Ends s (headerOf s .m)
+accepted-ends s e =
+    let f = file-meets s e in
+    let n = f .header .limits .nodes .1 in
+    record { a-low = λ l h. let x = f .links l h .ends in omega (arith, x .0, x .1); b-low = λ l h. let x = f .links l h .ends in omega (arith, x .0, x .1) }
+
+pub accepted-few : (s : List ℕ) → judge s ≡ Accepted → headerOf s .n ≤ 32
+accepted-few s e = file-meets s e .header .limits .nodes .1
+
+pub accepted-some : (s : List ℕ) → judge s ≡ Accepted → 3 ≤ headerOf s .n
+accepted-some s e = file-meets s e .header .limits .nodes .0

@@ -1,0 +1,31 @@
+-- Each node's neighbours as a word, and a topology's isolated nodes as a word, gathered from a file's bytes.
+use mathlib.Core.List.{List}
+use mathlib.Core.Bool.{Bool}
+use Prim.Native.Nat.{ℕ, zero, suc, _<_}
+use lib.Dec.{eqb}
+use lib.ListN.{getD, set, replicate}
+use Rattle.rules.specs.declared.Network.{Network}
+use Rattle.rules.specs.File.{endA, endB, homeTopology}
+use Rattle.words.specs.Word.{adding}
+
+-- y comes into x's word
+unfoldable pub entered : List ℕ → ℕ → ℕ → List ℕ
+entered nb x y = set nb x (adding (getD nb x 0) y)
+
+-- the words once the first links are entered at both their ends
+unfoldable pub linked : (ℕ → ℕ) → (ℕ → ℕ) → List ℕ → ℕ → List ℕ
+linked A B nb zero = nb
+linked A B nb (suc l) = entered (entered (linked A B nb l) (A l) (B l)) (B l) (A l)
+
+-- every node's neighbour word, by the first m links
+unfoldable pub neighbourWords : List ℕ → ℕ → List ℕ
+neighbourWords s m = linked (endA s) (endB s) (replicate 32 0) m
+
+-- node v's home is i
+unfoldable pub homeIs : List ℕ → Network → ℕ → ℕ → Bool
+homeIs s h i v = eqb (homeTopology s h v) i
+
+-- the ends of the first m links are nodes below 32
+pub record Ends (s : List ℕ) (m : ℕ) : Type 0 where
+  pub a-low : (l : ℕ) → l < m → endA s l < 32
+  pub b-low : (l : ℕ) → l < m → endB s l < 32

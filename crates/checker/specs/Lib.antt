@@ -1,0 +1,3 @@
+-- The check as it runs, over words. proofs/ has the laws that it is 01's.
+pub mod Graph
+pub mod Topology

@@ -1,0 +1,2 @@
+-- A set of nodes as a word.
+pub mod Word

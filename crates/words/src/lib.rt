@@ -1,0 +1,89 @@
+// A set of nodes as a 32-bit word: node v is in it where bit v is set. Each function promises one equation with the definition
+// of its name; who is in the result, how many ones a word has and which is its lowest stand as laws in proofs/, in terms of
+// the definitions of 01. A node is below 32 here.
+ghost use mathlib.Core.Path.{_≡_};
+ghost use Prim.Native.Nat.{ℕ, _+_, _<_, _≤_};
+ghost use lib.Count.{ones};
+ghost use Rattle.words.specs.Word.{has, both, either, minus, only, adding, removing, firsts, lowestIn, put};
+
+// v is in it.
+pub fn has(w: u32, v: u8) -> bool
+    requires { ⌜ v < 32 ⌝ }
+    ensures { λ r. ⌜ r ≡ has w v ⌝ }
+{
+    (w >> v) % 2 == 1
+}
+
+pub fn both(a: u32, b: u32) -> u32
+    ensures { λ r. ⌜ r ≡ both a b ⌝ }
+{
+    a & b
+}
+
+pub fn either(a: u32, b: u32) -> u32
+    ensures { λ r. ⌜ r ≡ either a b ⌝ }
+{
+    a | b
+}
+
+// The first without the second.
+pub fn minus(a: u32, b: u32) -> u32
+    ensures { λ r. ⌜ r ≡ minus a b ⌝ }
+{
+    a & !b
+}
+
+// v alone.
+pub fn only(v: u8) -> u32
+    requires { ⌜ v < 32 ⌝ }
+    ensures { λ r. ⌜ r ≡ only v ⌝ }
+{
+    1u32 << v
+}
+
+pub fn adding(w: u32, v: u8) -> u32
+    requires { ⌜ v < 32 ⌝ }
+    ensures { λ r. ⌜ r ≡ adding w v ⌝ }
+{
+    w | (1u32 << v)
+}
+
+pub fn removing(w: u32, v: u8) -> u32
+    requires { ⌜ v < 32 ⌝ }
+    ensures { λ r. ⌜ r ≡ removing w v ⌝ }
+{
+    w & !(1u32 << v)
+}
+
+// The nodes below n.
+pub fn firsts(n: u8) -> u32
+    requires { ⌜ (1 ≤ n) × (n ≤ 32) ⌝ }
+    ensures { λ r. ⌜ r ≡ firsts n ⌝ }
+{
+    4294967295u32 >> (32 - n)
+}
+
+// How many are in it: the count of ones.
+pub fn size(w: u32) -> u32
+    ensures { λ r. ⌜ r ≡ ones w ⌝ }
+{
+    u32::count_ones(w)
+}
+
+// The lowest member, by the trailing zeros; 32 where there is none.
+pub fn lowest(w: u32) -> u8
+    ensures { λ r. ⌜ r ≡ lowestIn w ⌝ }
+{
+    u32::trailing_zeros(w) as u8
+}
+
+// With v in it where the test held.
+pub fn put(t: bool, w: u32, v: u8) -> u32
+    requires { ⌜ v < 32 ⌝ }
+    ensures { λ r. ⌜ r ≡ put t w v ⌝ }
+{
+    if t {
+        return adding(w, v);
+    }
+    w
+}
