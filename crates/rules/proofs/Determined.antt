@@ -56,7 +56,7 @@ verdict-one Accepted (Refused number place) e = cc
 verdict-one (Refused number place) Accepted e = cc
 verdict-one (Refused number place) (Refused c p) e = cc
 
-header-one : (h h′ : Network) → headerValues h ≡ headerValues h′ → h ≡ h′
+pub header-one : (h h′ : Network) → headerValues h ≡ headerValues h′ → h ≡ h′
 unfolding headerValues
 header-one h h′ e =
     let n : h .n ≡ h′ .n = cc in
@@ -75,7 +75,7 @@ read-one (read.Read h) (read.Refused number place) e = cc
 read-one (read.Refused number place) (read.Read h) e = cc
 read-one (read.Refused number place) (read.Refused c p) e = cc
 
-length-one : (r r′ : LengthAnswer) → lengthTells r ≡ lengthTells r′ → r ≡ r′
+pub length-one : (r r′ : LengthAnswer) → lengthTells r ≡ lengthTells r′ → r ≡ r′
 unfolding lengthTells
 length-one (long.Length b) (long.Length b′) e = cc
 length-one (long.Length b) (long.Refused number place) e = cc

@@ -1,13 +1,13 @@
 -- Laws of lists by index: upTo, flat, laid.
 use mathlib.Core.Path.{_≡_, refl, sym, ap, ap₂, _∙_}
 use mathlib.Core.Logic.{⊎-elim}
-use mathlib.Core.List.{List, [], _∷_, _++_}
+use mathlib.Core.List.{List, [], _∷_, _++_, append-nil, append-assoc}
 use Prim.Native.Nat.{ℕ, zero, suc, _+_, _-_, _*_, _≤_, _<_, min}
-use native.Mathlib.Nat.{zero-mul, suc-mul, mul-le-mul-right, eq-or-lt-of-le, le-of-suc-le-suc}
+use native.Mathlib.Nat.{add-zero, add-suc, zero-mul, suc-mul, mul-le-mul-right, eq-or-lt-of-le, le-of-suc-le-suc}
 use native.Mathlib.Numerals.{add-one}
 use native.Mathlib.Omega.{arith}
 use lib.ListN.{length, getD, take, drop, length-append, length-drop, List·getD-append}
-use lib.Seq.{getD-at, getD-append-add, getD-drop, ext-getD, take-append-seam, drop-append-seam}
+use lib.Seq.{getD-at, getD-append-add, getD-take, getD-drop, ext-getD, length-take-le, take-append-seam, drop-append-seam}
 use Rattle.rules.specs.Basics.{upTo, flat, laid}
 
 -- ---- upTo
@@ -37,6 +37,21 @@ module _ {A : Type 0} where
       ext-getD d (upTo (λ x. getD l x d) n) l (length-upTo (λ x. getD l x d) n ∙ sym e)
       (λ x h. getD-upTo (λ y. getD l y d) n x d (omega (arith, length-upTo (λ y. getD l y d) n)))
 
+  -- its first n entries
+  pub upTo-take : (l : List A) (n : ℕ) (d : A) → n ≤ length l → upTo (λ x. getD l x d) n ≡ take n l
+  upTo-take l n d h =
+      ext-getD d (upTo (λ x. getD l x d) n) (take n l) (length-upTo (λ x. getD l x d) n ∙ sym (length-take-le n l h))
+      (λ x g.
+      let b : x < n = omega (arith, length-upTo (λ y. getD l y d) n) in
+      getD-upTo (λ y. getD l y d) n x d b ∙ sym (getD-take n l x d b))
+
+  -- a list in two parts
+  pub upTo-add : (f : ℕ → A) (a b : ℕ) → upTo f (a + b) ≡ upTo f a ++ upTo (λ x. f (a + x)) b
+  unfolding upTo
+  upTo-add f a zero = rw add-zero (sym (append-nil (upTo f a)))
+  upTo-add f a (suc b) =
+      rw add-suc (ap (λ (l : List A). l ++ (f (a + b) ∷ [])) (upTo-add f a b) ∙ append-assoc (upTo f a) (upTo (λ x. f (a + x)) b) (f (a + b) ∷ []))
+
 -- ---- flat: n lists, each w long
 
 module _ (f : ℕ → List ℕ) (w : ℕ) where
@@ -62,6 +77,13 @@ pub flat-ext : (f g : ℕ → List ℕ) (n : ℕ) → ((x : ℕ) → x < n → f
 unfolding flat
 flat-ext f g zero h = refl
 flat-ext f g (suc n) h = ap₂ _++_ (flat-ext f g n (λ x l. h x (omega arith))) (h n (omega arith))
+
+-- a list cut into n parts, each w long
+pub flat-upTo : (f : ℕ → ℕ) (w n : ℕ) → flat (λ x. upTo (λ j. f (x * w + j)) w) n ≡ upTo f (n * w)
+unfolding flat upTo
+flat-upTo f w zero = rw zero-mul
+flat-upTo f w (suc n) =
+    ap (λ (l : List ℕ). l ++ upTo (λ j. f (n * w + j)) w) (flat-upTo f w n) ∙ sym (upTo-add f (n * w) w) ∙ ap (upTo f) (sym (suc-mul n w))
 
 -- ---- laid
 
