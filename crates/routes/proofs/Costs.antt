@@ -83,3 +83,7 @@ pub cost-at : (a b homes row : List ℕ) (i r l x x′ y y′ p q w s : ℕ) →
     → w ≡ getD row l 0 → s ≡ costOf p q i w r → s ≡ costAt a b homes row i r l
 unfolding costAt
 cost-at a b homes row i r l x x′ y y′ p q w s e1 e2 e3 e4 e5 e6 e7 e8 = e8 ∙ rw (e5, e6, e7, e2, e4, e1, e3)
+
+pub costs-more : (a b homes row : List ℕ) (i r m : ℕ) (d e : List ℕ) (l v : ℕ) → e ≡ upTo (costAt a b homes row i r) l ++ drop l d → l < m → m ≡ length d → length e ≡ length d
+    → v ≡ costAt a b homes row i r l → set e l v ≡ upTo (costAt a b homes row i r) (l + 1) ++ drop (l + 1) d
+costs-more a b homes row i r m d e l v q h g k = fill-more (costAt a b homes row i r) d e l v q (omega arith) k

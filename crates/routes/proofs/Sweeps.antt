@@ -8,11 +8,10 @@ use mathlib.Core.Logic.{_⊎_, inl, inr, ⊎-elim}
 use mathlib.Core.List.{List, [], _∷_}
 use lib.ListN.{length, getD, set, replicate, length-set, length-replicate, getD-replicate}
 use lib.Seq.{getD-set-same, getD-set-other}
-use lib.Dec.{eqb, ltb}
-use borrow.Author.Tests.{eqb-true, eqb-false, lt-ltb, le-ltb, ltb-true}
-use Rattle.rules.specs.Basics.{count}
+use lib.Dec.{eqb}
+use borrow.Author.Tests.{eqb-true, eqb-false}
 use Rattle.rules.specs.Distance.{far}
-use Rattle.rules.proofs.Numbers.{count-lt, count-all}
+use Rattle.rules.proofs.Rounds.{rank, rank-lt, rank-bound}
 use Rattle.routes.specs.Sweeps.{Net, lower, both, sweep, rounds, start, Low}
 
 pub same? : (m n : ℕ) → (m ≡ n) ⊎ (m ≡ n → ⊥)
@@ -195,25 +194,6 @@ module _ (G : Net) (n t : ℕ) (D : ℕ → ℕ) (E : Exact G n t D) (t-in : t <
             (same? u t);
       }
 
-  -- how many nodes are nearer than u
-  rank : ℕ → ℕ
-  rank u = count (λ x. ltb (D x) (D u)) n
-
-  rank-lt : (u w : ℕ) → w < n → D w < D u → rank w < rank u
-  unfolding rank
-  rank-lt u w l h =
-      count-lt (λ x. ltb (D x) (D w)) (λ x. ltb (D x) (D u)) n w
-      (λ x lx e. lt-ltb (D x) (D u) (omega (arith, ltb-true (D x) (D w) e))) l (le-ltb (D w) (D w) (omega arith)) (lt-ltb (D w) (D u) h)
-
-  rank-bound : (u : ℕ) → u < n → rank u < n
-  unfolding rank
-  rank-bound u l =
-      omega (
-        arith,
-        count-lt (λ x. ltb (D x) (D u)) (λ x. true) n u (λ x lx e. refl) l (le-ltb (D u) (D u) (omega arith)) refl,
-        count-all (λ x. true) n,
-      )
-
   sweep-tight : (d : List ℕ) (u : ℕ) (T : Tight G n D u) → getD (sweep G (G .links) d) u 0 ≤ G .cost (T .link) + getD d (T .next) 0
   sweep-tight d u T =
       let q = sweep-link G (G .links) d (T .link) (T .inside) in
@@ -222,11 +202,11 @@ module _ (G : Net) (n t : ℕ) (D : ℕ → ℕ) (E : Exact G n t D) (t-in : t <
       (T .leads)
 
   -- after j rounds every node with at most j nearer ones is down to D
-  by-rank : (j u : ℕ) → u < n → rank u ≤ j → getD (rounds G j (start n t)) u 0 ≤ D u
+  by-rank : (j u : ℕ) → u < n → rank D n u ≤ j → getD (rounds G j (start n t)) u 0 ≤ D u
   unfolding rounds
   by-rank zero u hu h =
       ⊎-elim (λ (e : u ≡ t). rw e (omega (arith, start-at n t t-in)))
-      (λ (ne : u ≡ t → ⊥). let T = E .tight u hu ne in absurd (omega (arith, rank-lt u (T .next) (T .node) (T .nearer))))
+      (λ (ne : u ≡ t → ⊥). let T = E .tight u hu ne in absurd (omega (arith, rank-lt D n u (T .next) (T .node) (T .nearer))))
       (same? u t)
   by-rank (suc j) u hu h =
       ⊎-elim
@@ -237,7 +217,7 @@ module _ (G : Net) (n t : ℕ) (D : ℕ → ℕ) (E : Exact G n t D) (t-in : t <
       omega (
         arith,
         sweep-tight (rounds G j (start n t)) u T,
-        by-rank j (T .next) (T .node) (omega (arith, rank-lt u (T .next) (T .node) (T .nearer))),
+        by-rank j (T .next) (T .node) (omega (arith, rank-lt D n u (T .next) (T .node) (T .nearer))),
         T .exact,
       ))
       (same? u t)
@@ -245,4 +225,4 @@ module _ (G : Net) (n t : ℕ) (D : ℕ → ℕ) (E : Exact G n t D) (t-in : t <
   -- as many sweeps as there are nodes reach D
   pub rounds-reach : (u : ℕ) → u < n → getD (rounds G n (start n t)) u 0 ≡ D u
   rounds-reach u hu =
-      le-antisymm (by-rank n u hu (omega (arith, rank-bound u hu))) (rounds-above n (start n t) start-above .above u hu)
+      le-antisymm (by-rank n u hu (omega (arith, rank-bound D n u hu))) (rounds-above n (start n t) start-above .above u hu)

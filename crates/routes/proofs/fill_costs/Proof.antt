@@ -1,3 +1,4 @@
+use Rattle.routes.proofs.Costs.{costs-more}
 use mathlib.Core.List.{_++_}
 use lib.ListN.{drop}
 use Rattle.rules.specs.Basics.{upTo}
@@ -45,7 +46,7 @@ loop-less c = search needs
 
 -- src/lib.rt:94:5
 loop-again : tie.Need-loop-again Inv-loop μ-loop
-loop-again c = (search needs, search needs, search needs, search fill-more)
+loop-again c = (search needs, search needs, search needs, search costs-more)
 
 -- src/lib.rt:88:1
 same-length : tie.Need-same-length Inv-loop μ-loop
