@@ -3,3 +3,4 @@ pub mod Sweeps
 pub mod Lanes
 pub mod Filling
 pub mod Costs
+pub mod Exact
