@@ -4,3 +4,4 @@ pub mod Lanes
 pub mod Filling
 pub mod Costs
 pub mod Exact
+pub mod Held
