@@ -1,0 +1,45 @@
+-- The tables of an accepted set, topology by topology.
+use Prim.Native.Nat.{ℕ, zero, suc, _+_, _*_, _≤_, _<_}
+use mathlib.Core.Path.{_≡_}
+use mathlib.Core.List.{List, [], _++_}
+use lib.ListN.{length, getD, drop}
+use Rattle.rules.specs.Basics.{upTo, flat}
+use Rattle.rules.specs.File.{Set}
+use Rattle.rules.specs.Isolation.{home}
+use Rattle.rules.specs.Distance.{nextHop, alternate}
+use Rattle.routes.specs.Costs.{cost, Distances}
+
+-- the next hops of topology i
+unfoldable pub hopTable : Set → ℕ → List ℕ
+hopTable S i = flat (λ u. upTo (nextHop S i u) (S .net .n)) (S .net .n)
+
+unfoldable pub alternateTable : Set → List ℕ
+alternateTable S = flat (λ u. upTo (alternate S u) (S .net .n)) (S .net .n)
+
+-- the rows of a matrix, n entries of each of n
+unfoldable pub entriesOf : List (List ℕ) → ℕ → ℕ → List ℕ
+entriesOf alts n u = upTo (λ v. getD (getD alts u []) v 0) n
+
+-- the costs c and the distances d of topology i
+pub record Ready (S : Set) (i : ℕ) (c : List ℕ) (d : List (List ℕ)) : Type 0 where
+  pub costs : c ≡ upTo (cost S i) (S .net .m)
+  pub distances : Distances S i d
+
+-- the alternates of the nodes whose home is below i stand in their rows
+pub record AlternatesBelow (S : Set) (i : ℕ) (alts : List (List ℕ)) : Type 0 where
+  pub long : length alts ≡ S .net .n
+  pub is : (u : ℕ) → u < S .net .n → home S u < i → (v : ℕ) → v < S .net .n → getD (getD alts u []) v 0 ≡ alternate S u v
+
+-- room to work in: lists of lengths x, y, z for m links and n nodes
+pub record Work (S : Set) (c : List ℕ) (d w : List (List ℕ)) : Type 0 where
+  pub c-long : length c ≡ S .net .m
+  pub d-long : length d ≡ S .net .n
+  pub w-long : length w ≡ S .net .n
+
+-- after i topologies: their tables stand at the front of out, and what follows from `at` on is as it came
+pub record Stage (S : Set) (out₀ out : List ℕ) (alts : List (List ℕ)) (i at : ℕ) : Type 0 where
+  pub low : i ≤ S .net .k + 1
+  pub at-is : at ≡ i * (S .net .n * S .net .n)
+  pub long : length out ≡ length out₀
+  pub is : out ≡ flat (hopTable S) i ++ drop at out₀
+  pub alternates : AlternatesBelow S i alts
