@@ -2,3 +2,4 @@
 pub mod Ties
 pub mod Neighbours
 pub mod Lowest
+pub mod NextHops

@@ -62,6 +62,21 @@ module _ (S : Set) (M : MeetsRules S) where
       lowest-one (λ x. joins S x u w) (S .net .m) (S .net .m) l h (ends-join S l u w e)
       (λ j g. false-of (joins S j u w) (λ q. let lj : j < S .net .m = omega arith in omega (arith, key-lt l j g h, key-same j l u w lj h (joins-ends S j u w q) e)))
 
+-- ---- the list of distances
+
+distances-length : (S : Set) (i t : ℕ) → length (distances S i t) ≡ S .net .n
+unfolding distances totals longer
+distances-length S i t = go (S .net .n - 1)
+  where
+    go : (h : ℕ) → length (totals S i t h) ≡ S .net .n
+    go zero = length-upTo _ (S .net .n)
+    go (suc h) = length-upTo _ (S .net .n)
+
+in-range : (l : List ℕ) (u x y : ℕ) → u < length l → getD l u x ≡ getD l u y
+in-range [] u x y h = absurd (omega arith)
+in-range (z ∷ l) zero x y h = refl
+in-range (z ∷ l) (suc u) x y h = in-range l u x y (omega arith)
+
 -- ---- costs and hops
 
 -- a link is never used, or its cost is the weight of the hop
@@ -173,28 +188,21 @@ module _ (S : Set) (A : AcceptedSet S) (i : ℕ) (hi : i ≤ S .net .k) where
               };
         }
 
-    distances-length : (t : ℕ) → length (distances S i t) ≡ S .net .n
-    unfolding distances totals longer
-    distances-length t = go (S .net .n - 1)
-      where
-        go : (h : ℕ) → length (totals S i t h) ≡ S .net .n
-        go zero = length-upTo _ (S .net .n)
-        go (suc h) = length-upTo _ (S .net .n)
-
-    in-range : (l : List ℕ) (u x y : ℕ) → u < length l → getD l u x ≡ getD l u y
-    in-range [] u x y h = absurd (omega arith)
-    in-range (z ∷ l) zero x y h = refl
-    in-range (z ∷ l) (suc u) x y h = in-range l u x y (omega arith)
-
     swept : (t : ℕ) → t < S .net .n → rounds G (S .net .n) (start (S .net .n) t) ≡ distances S i t
     unfolding distance
     swept t lt =
         let ld : length (rounds G (S .net .n) (start (S .net .n) t)) ≡ S .net .n = rounds-length G (S .net .n) (start (S .net .n) t) ∙ start-length (S .net .n) t in
-        ext-getD 0 (rounds G (S .net .n) (start (S .net .n) t)) (distances S i t) (ld ∙ sym (distances-length t))
+        ext-getD 0 (rounds G (S .net .n) (start (S .net .n) t)) (distances S i t) (ld ∙ sym (distances-length S i t))
         (λ u h.
         let lu : u < S .net .n = omega (arith, ld) in
-        rounds-reach G (S .net .n) t (λ x. distance S i x t) (exact t lt) lt u lu ∙ in-range (distances S i t) u far 0 (omega (arith, distances-length t)))
+        rounds-reach G (S .net .n) t (λ x. distance S i x t) (exact t lt) lt u lu ∙ in-range (distances S i t) u far 0 (omega (arith, distances-length S i t)))
 
     pub settled-distances : (d : List (List ℕ)) → Settled G d (S .net .n) → Distances S i d
     settled-distances d Q =
         record { is = λ t lt. Q .is t (omega (arith, A .rules .limits .nodes .1)) ∙ swept t lt; long = Q .long }
+
+-- an entry of the matrix is a distance
+pub distance-entry : (S : Set) (i : ℕ) (d : List (List ℕ)) → Distances S i d → (u t : ℕ) → u < S .net .n → t < S .net .n → getD (column t d) u 0 ≡ distance S i u t
+unfolding distance
+distance-entry S i d Q u t lu lt =
+    ap (λ (l : List ℕ). getD l u 0) (Q .is t lt) ∙ in-range (distances S i t) u 0 far (omega (arith, distances-length S i t))
