@@ -3,3 +3,4 @@ pub mod Ties
 pub mod Neighbours
 pub mod Lowest
 pub mod NextHops
+pub mod Detours
