@@ -7,6 +7,7 @@ use Rattle.rules.specs.Basics.{upTo, flat}
 use Rattle.rules.specs.File.{Set}
 use Rattle.rules.specs.Isolation.{home}
 use Rattle.rules.specs.Distance.{nextHop, alternate}
+use Rattle.routes.specs.Lanes.{LowCols}
 use Rattle.routes.specs.Costs.{cost, Distances}
 
 -- the next hops of topology i
@@ -24,17 +25,30 @@ entriesOf alts n u = upTo (λ v. getD (getD alts u []) v 0) n
 pub record Ready (S : Set) (i : ℕ) (c : List ℕ) (d : List (List ℕ)) : Type 0 where
   pub costs : c ≡ upTo (cost S i) (S .net .m)
   pub distances : Distances S i d
+  pub low : LowCols d
 
 -- the alternates of the nodes whose home is below i stand in their rows
 pub record AlternatesBelow (S : Set) (i : ℕ) (alts : List (List ℕ)) : Type 0 where
   pub long : length alts ≡ S .net .n
   pub is : (u : ℕ) → u < S .net .n → home S u < i → (v : ℕ) → v < S .net .n → getD (getD alts u []) v 0 ≡ alternate S u v
 
--- room to work in: lists of lengths x, y, z for m links and n nodes
+-- room to work in: an entry for each link, a row for each node
 pub record Work (S : Set) (c : List ℕ) (d w : List (List ℕ)) : Type 0 where
   pub c-long : length c ≡ S .net .m
   pub d-long : length d ≡ S .net .n
   pub w-long : length w ≡ S .net .n
+
+-- what one topology adds: its next hops, and the alternates of the nodes whose home it is
+pub record Added (S : Set) (i : ℕ) (out : List ℕ) (alts : List (List ℕ)) : Type 0 where
+  pub hops : out ≡ hopTable S i
+  pub alternates : AlternatesBelow S (suc i) alts
+
+-- lists of lengths x, y, z and v have room for m links and n nodes
+pub record Roomy (m n x y z v : ℕ) : Type 0 where
+  pub c-room : m ≤ x
+  pub d-room : n ≤ y
+  pub w-room : n ≤ z
+  pub alts-room : n ≤ v
 
 -- after i topologies: their tables stand at the front of out, and what follows from `at` on is as it came
 pub record Stage (S : Set) (out₀ out : List ℕ) (alts : List (List ℕ)) (i at : ℕ) : Type 0 where

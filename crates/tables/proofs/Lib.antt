@@ -1,0 +1,2 @@
+-- Laws of the tables' stages.
+pub mod Topologies

@@ -1,0 +1,74 @@
+// The tables of a set: (k + 1) × n × n next hops by topology, node and destination, then n × n alternates by node and neighbour.
+// `fill_tables` promises that the lent bytes become exactly those of the definitions. Each topology's distances are made once: its next
+// hops and the alternates of the nodes whose home it is are taken while they are at hand. All room to work in is local.
+use rules::Network;
+
+ghost use mathlib.Core.Path.{_≡_};
+ghost use Prim.Native.Nat.{ℕ, suc, _+_, _*_, _≤_, _<_};
+ghost use mathlib.Core.List.{List, []};
+ghost use lib.ListN.{length, getD};
+ghost use Rattle.rules.specs.Basics.{upTo, flat};
+ghost use Rattle.rules.specs.Limits.{restrictedWeight, tablesLength};
+ghost use Rattle.rules.specs.Distance.{tableBytes};
+ghost use Rattle.rules.specs.Demands.{AcceptedSet};
+ghost use Rattle.rules.specs.Entries.{lists, setWith};
+ghost use Rattle.routes.specs.Costs.{cost};
+ghost use Rattle.tables.specs.Stages.{hopTable, entriesOf, Ready, AlternatesBelow, Work, Added, Roomy};
+
+// 2 × m × wmax.
+fn restricted_weight(net: Network) -> u32
+    requires { ⌜ net .m ≤ 128 ⌝ }
+    ensures { λ r. ⌜ r ≡ restrictedWeight net ⌝ }
+{
+    let m = net.m as u32;
+    let wmax = net.wmax as u32;
+    2 * m * wmax
+}
+
+// The cost of every link in topology i.
+fn costs<'a>(net: Network, a: &[u8], b: &[u8], weights: &'a [u16], homes: &[u8], rows: &'a [u16], i: u8, c: &mut [u32])
+    requires { ⌜ AcceptedSet (setWith net (lists (now a) (now b) (now weights) (now homes) (now rows))) ⌝ }
+    requires { ⌜ (i ≤ net .k) × (length (now c) ≡ net .m) ⌝ }
+    ensures { λ _. ⌜ now (c .exit) ≡ upTo (cost (setWith net (lists (now (a .entry)) (now (b .entry)) (now (weights .entry)) (now (homes .entry)) (now (rows .entry)))) i) (net .m) ⌝ }
+{
+    let m = net.m as usize;
+    let row = routes::row_in_force(weights, rows, m, i as usize);
+    let r = restricted_weight(net);
+    routes::fill_costs(a, b, homes, row, i, r, c);
+}
+
+// The costs c and the distances d of topology i.
+fn measure<'a>(net: Network, a: &[u8], b: &[u8], weights: &'a [u16], homes: &[u8], rows: &'a [u16], i: u8, c: &mut [u32], d: &mut [[u32; 32]])
+    requires { ⌜ AcceptedSet (setWith net (lists (now a) (now b) (now weights) (now homes) (now rows))) ⌝ }
+    requires { ⌜ (i ≤ net .k) × (length (now c) ≡ net .m) × (length (now d) ≡ net .n) ⌝ }
+    ensures { λ _. ⌜ Ready (setWith net (lists (now (a .entry)) (now (b .entry)) (now (weights .entry)) (now (homes .entry)) (now (rows .entry)))) i (now (c .exit)) (now (d .exit)) ⌝ }
+{
+    costs(net, a, b, weights, homes, rows, i, c);
+    routes::distances(a, b, c, d);
+}
+
+// Topology i: its next hops, and the alternates of the nodes whose home it is.
+fn topology<'a>(
+    net: Network,
+    a: &[u8],
+    b: &[u8],
+    weights: &'a [u16],
+    homes: &[u8],
+    rows: &'a [u16],
+    i: u8,
+    c: &mut [u32],
+    d: &mut [[u32; 32]],
+    w: &mut [[u32; 32]],
+    alts: &mut [[u8; 32]],
+    out: &mut [u8],
+)
+    requires { ⌜ AcceptedSet (setWith net (lists (now a) (now b) (now weights) (now homes) (now rows))) ⌝ }
+    requires { ⌜ Work (setWith net (lists (now a) (now b) (now weights) (now homes) (now rows))) (now c) (now d) (now w) ⌝ }
+    requires { ⌜ AlternatesBelow (setWith net (lists (now a) (now b) (now weights) (now homes) (now rows))) i (now alts) ⌝ }
+    requires { ⌜ (i ≤ net .k) × (length (now out) ≡ net .n * net .n) ⌝ }
+    ensures { λ _. ⌜ Added (setWith net (lists (now (a .entry)) (now (b .entry)) (now (weights .entry)) (now (homes .entry)) (now (rows .entry)))) i (now (out .exit)) (now (alts .exit)) ⌝ }
+{
+    measure(net, a, b, weights, homes, rows, i, c, d);
+    hops::hop_table(a, b, c, d, w, out);
+    hops::alternates(a, b, homes, i, d, alts);
+}
