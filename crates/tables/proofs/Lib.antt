@@ -1,2 +1,3 @@
 -- Laws of the tables' stages.
-pub mod Topologies
+pub mod One
+pub mod Whole

@@ -2,7 +2,7 @@
 use Prim.Native.Nat.{ℕ, zero, suc, _+_, _*_, _≤_, _<_}
 use mathlib.Core.Path.{_≡_}
 use mathlib.Core.List.{List, [], _++_}
-use lib.ListN.{length, getD, drop}
+use lib.ListN.{length, getD, take, drop}
 use Rattle.rules.specs.Basics.{upTo, flat}
 use Rattle.rules.specs.File.{Set}
 use Rattle.rules.specs.Isolation.{home}
@@ -17,9 +17,12 @@ hopTable S i = flat (λ u. upTo (nextHop S i u) (S .net .n)) (S .net .n)
 unfoldable pub alternateTable : Set → List ℕ
 alternateTable S = flat (λ u. upTo (alternate S u) (S .net .n)) (S .net .n)
 
--- the rows of a matrix, n entries of each of n
+unfoldable pub entry : List ℕ → ℕ → ℕ
+entry r v = getD r v 0
+
+-- row u of a matrix, n entries of it
 unfoldable pub entriesOf : List (List ℕ) → ℕ → ℕ → List ℕ
-entriesOf alts n u = upTo (λ v. getD (getD alts u []) v 0) n
+entriesOf alts n u = upTo (entry (getD alts u [])) n
 
 -- the costs c and the distances d of topology i
 pub record Ready (S : Set) (i : ℕ) (c : List ℕ) (d : List (List ℕ)) : Type 0 where
@@ -42,6 +45,16 @@ pub record Work (S : Set) (c : List ℕ) (d w : List (List ℕ)) : Type 0 where
 pub record Added (S : Set) (i : ℕ) (out : List ℕ) (alts : List (List ℕ)) : Type 0 where
   pub hops : out ≡ hopTable S i
   pub alternates : AlternatesBelow S (suc i) alts
+
+-- the same where the next hops stand at `at` in out, which was out₀
+pub record AddedAt (S : Set) (i at : ℕ) (out₀ out : List ℕ) (alts : List (List ℕ)) : Type 0 where
+  pub hops : out ≡ take at out₀ ++ (hopTable S i ++ drop (at + S .net .n * S .net .n) out₀)
+  pub alternates : AlternatesBelow S (suc i) alts
+
+-- what all topologies add
+pub record AllAdded (S : Set) (out : List ℕ) (alts : List (List ℕ)) : Type 0 where
+  pub hops : out ≡ flat (hopTable S) (S .net .k + 1)
+  pub alternates : AlternatesBelow S (S .net .k + 1) alts
 
 -- lists of lengths x, y, z and v have room for m links and n nodes
 pub record Roomy (m n x y z v : ℕ) : Type 0 where

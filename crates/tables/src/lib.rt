@@ -13,7 +13,7 @@ ghost use Rattle.rules.specs.Distance.{tableBytes};
 ghost use Rattle.rules.specs.Demands.{AcceptedSet};
 ghost use Rattle.rules.specs.Entries.{lists, setWith};
 ghost use Rattle.routes.specs.Costs.{cost};
-ghost use Rattle.tables.specs.Stages.{hopTable, entriesOf, Ready, AlternatesBelow, Work, Added, Roomy};
+ghost use Rattle.tables.specs.Stages.{hopTable, entriesOf, Ready, AlternatesBelow, Work, Added, AddedAt, AllAdded, Roomy, entry};
 
 // 2 × m × wmax.
 fn restricted_weight(net: Network) -> u32
@@ -71,4 +71,90 @@ fn topology<'a>(
     measure(net, a, b, weights, homes, rows, i, c, d);
     hops::hop_table(a, b, c, d, w, out);
     hops::alternates(a, b, homes, i, d, alts);
+}
+
+// The same into out at `at`.
+fn topology_at<'a>(
+    net: Network,
+    a: &[u8],
+    b: &[u8],
+    weights: &'a [u16],
+    homes: &[u8],
+    rows: &'a [u16],
+    i: u8,
+    c: &mut [u32],
+    d: &mut [[u32; 32]],
+    w: &mut [[u32; 32]],
+    alts: &mut [[u8; 32]],
+    out: &mut [u8],
+    at: usize,
+)
+    requires { ⌜ AcceptedSet (setWith net (lists (now a) (now b) (now weights) (now homes) (now rows))) ⌝ }
+    requires { ⌜ Work (setWith net (lists (now a) (now b) (now weights) (now homes) (now rows))) (now c) (now d) (now w) ⌝ }
+    requires { ⌜ AlternatesBelow (setWith net (lists (now a) (now b) (now weights) (now homes) (now rows))) i (now alts) ⌝ }
+    requires { ⌜ (i ≤ net .k) × (at + net .n * net .n ≤ length (now out)) ⌝ }
+    ensures { λ _. ⌜ AddedAt (setWith net (lists (now (a .entry)) (now (b .entry)) (now (weights .entry)) (now (homes .entry)) (now (rows .entry)))) i at (now (out .entry)) (now (out .exit)) (now (alts .exit)) ⌝ }
+{
+    let n = net.n as usize;
+    let to = at + n * n;
+    topology(net, a, b, weights, homes, rows, i, c, d, w, alts, &mut out[at..to]);
+}
+
+// Every topology: the next hops one after the other, and into alts the alternates of all nodes.
+fn topologies<'a>(
+    net: Network,
+    a: &[u8],
+    b: &[u8],
+    weights: &'a [u16],
+    homes: &[u8],
+    rows: &'a [u16],
+    c: &mut [u32],
+    d: &mut [[u32; 32]],
+    w: &mut [[u32; 32]],
+    alts: &mut [[u8; 32]],
+    out: &mut [u8],
+)
+    requires { ⌜ AcceptedSet (setWith net (lists (now a) (now b) (now weights) (now homes) (now rows))) ⌝ }
+    requires { ⌜ Work (setWith net (lists (now a) (now b) (now weights) (now homes) (now rows))) (now c) (now d) (now w) ⌝ }
+    requires { ⌜ (length (now alts) ≡ net .n) × (length (now out) ≡ (net .k + 1) * (net .n * net .n)) ⌝ }
+    ensures { λ _. ⌜ AllAdded (setWith net (lists (now (a .entry)) (now (b .entry)) (now (weights .entry)) (now (homes .entry)) (now (rows .entry)))) (now (out .exit)) (now (alts .exit)) ⌝ }
+{
+    let n = net.n as usize;
+    let size = n * n;
+    let k = net.k;
+    let mut i: u8 = 0;
+    let mut at: usize = 0;
+    while i <= k {
+        topology_at(net, a, b, weights, homes, rows, i, c, d, w, alts, out, at);
+        at += size;
+        i += 1;
+    }
+}
+
+fn copy_row(r: &[u8; 32], out: &mut [u8])
+    requires { ⌜ length (now out) ≤ 32 ⌝ }
+    ensures { λ _. ⌜ now (out .exit) ≡ upTo (entry (now (r .entry))) (length (now (out .entry))) ⌝ }
+{
+    let mut v: usize = 0;
+    while v < out.len() {
+        out[v] = r[v];
+        v += 1;
+    }
+}
+
+// The alternates, one row after the other.
+fn copy_rows(alts: &[[u8; 32]], out: &mut [u8])
+    requires { ⌜ (length (now alts) ≤ 32) × (length (now out) ≡ length (now alts) * length (now alts)) ⌝ }
+    ensures { λ _. ⌜ now (out .exit) ≡ flat (entriesOf (now (alts .entry)) (length (now (alts .entry)))) (length (now (alts .entry))) ⌝ }
+{
+    let n = alts.len();
+    let mut u: usize = 0;
+    let mut at: usize = 0;
+    while u < n {
+        let to = at + n;
+        let r = alts[u];
+        copy_row(&r, &mut out[at..to]);
+        at = to;
+        u += 1;
+    }
 }

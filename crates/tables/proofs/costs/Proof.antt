@@ -1,5 +1,5 @@
 use Rattle.routes.proofs.Held.{holds-row}
-use Rattle.tables.proofs.Topologies.{costs-are, costs-links, few-links}
+use Rattle.tables.proofs.One.{costs-are, costs-links, few-links}
 use borrow.Author.Needs.{needs}
 use Rattle.tables.proofs.costs.Statement.{statement}
 use Rattle.tables.proofs.costs.Tie as tie

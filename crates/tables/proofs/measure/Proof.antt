@@ -1,4 +1,4 @@
-use Rattle.tables.proofs.Topologies.{measure-wired, measured}
+use Rattle.tables.proofs.One.{measure-wired, measured}
 use borrow.Author.Needs.{needs}
 use Rattle.tables.proofs.measure.Statement.{statement}
 use Rattle.tables.proofs.measure.Tie as tie

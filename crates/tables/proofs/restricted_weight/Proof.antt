@@ -1,4 +1,4 @@
-use Rattle.tables.proofs.Topologies.{weight-fits, weight-is}
+use Rattle.tables.proofs.One.{weight-fits, weight-is}
 use borrow.Author.Needs.{needs}
 use Rattle.tables.proofs.restricted_weight.Statement.{statement}
 use Rattle.tables.proofs.restricted_weight.Tie as tie

@@ -1,4 +1,4 @@
-use Rattle.tables.proofs.Topologies.{added, ready-alternates, ready-homed, ready-low, ready-square, ready-wired, ready-words, work-costs, work-distances}
+use Rattle.tables.proofs.One.{added, ready-alternates, ready-homed, ready-low, ready-square, ready-wired, ready-words, work-costs, work-distances}
 use borrow.Author.Needs.{needs}
 use Rattle.tables.proofs.topology.Statement.{statement}
 use Rattle.tables.proofs.topology.Tie as tie
