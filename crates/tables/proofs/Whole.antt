@@ -5,7 +5,7 @@ use native.Mathlib.Numerals.{add-one}
 use native.Mathlib.Omega.{arith}
 use mathlib.Core.Path.{_≡_, refl, sym, ap, ap₂, subst, _∙_}
 use mathlib.Core.List.{List, [], _∷_, _++_, append-nil, append-assoc}
-use lib.ListN.{length, getD, set, take, drop}
+use lib.ListN.{length, getD, set, take, drop, length-drop, length-append}
 use lib.Seq.{drop-length, drop-drop, drop-at, take-at, length-take-le}
 use mir.Syntax.{w8, w64}
 use mir.Val.{Fits}
@@ -124,6 +124,94 @@ module _ (net : Network) (a b weights homes rows : List ℕ) (A : AcceptedSet (s
           hops = rows-done (hopTable S) (net .n * net .n) (net .k + 1) i at out₀ out (Q .low) (omega arith) at-is l (Q .is);
           alternates = subst (λ (j : ℕ). AlternatesBelow S j alts) e (Q .alternates);
         }
+
+  -- ---- `all_tables`
+  alternates-are : (f : List (List ℕ)) → AlternatesBelow S (net .k + 1) f → flat (entriesOf f (net .n)) (net .n) ≡ flat (λ u. upTo (alternate S u) (net .n)) (net .n)
+  unfolding setWith entriesOf entry
+  alternates-are f B =
+      flat-ext (entriesOf f (net .n)) (λ u. upTo (alternate S u) (net .n)) (net .n)
+      (λ u lu. upTo-ext (entry (getD f u [])) (alternate S u) (net .n) (λ v lv. B .is u lu (omega (arith, home-high S A u lu)) v lv))
+
+  module _ (out : List ℕ) (long : length out ≡ tablesLength net) where
+    tables-long : length out ≡ (net .k + 1) * (net .n * net .n) + net .n * net .n
+    unfolding tablesLength
+    tables-long = long
+
+    pub tail-within : net .n * net .n ≤ length out
+    tail-within = omega (arith, tables-long)
+
+    pub front-long : (split : ℕ) → split ≡ length out - net .n * net .n → length (take split out) ≡ (net .k + 1) * (net .n * net .n)
+    front-long split e = length-take-le split out (omega arith) ∙ omega (arith, tables-long)
+
+    pub front-count : (split : ℕ) → split ≡ length out - net .n * net .n → split ≡ length (take split out)
+    front-count split e = sym (length-take-le split out (omega arith))
+
+    module _ (y : List ℕ) (f : List (List ℕ)) (D : AllAdded S y f) where
+      split : ℕ
+      split = length out - net .n * net .n
+
+      front : length y ≡ split
+      unfolding setWith split
+      front = ap length (D .hops) ∙ length-flat (hopTable S) (net .n * net .n) (net .k + 1) (λ i h. table-long i) ∙ omega (arith, tables-long)
+
+      whole : List ℕ
+      whole = y ++ drop split out
+
+      back-long : length whole - split ≡ net .n * net .n
+      unfolding whole split
+      back-long = omega (arith, length-append y (drop split out), front, length-drop split out, tables-long)
+
+      back : drop split whole ≡ drop split out
+      unfolding whole
+      back = drop-at y (drop split out) split front
+
+      pub alternates-few : length f ≤ 32
+      unfolding setWith
+      alternates-few = omega (arith, D .alternates .long, A .rules .limits .nodes .1)
+
+      pub tail-long : length (take (length (y ++ drop (length out - net .n * net .n) out) - (length out - net .n * net .n)) (drop (length out - net .n * net .n) (y ++ drop (length out - net .n * net .n) out))) ≡ length f * length f
+      unfolding setWith whole split
+      tail-long =
+          length-take-le (length whole - split) (drop split whole) (omega (arith, length-drop split whole))
+          ∙ back-long ∙ rw (D .alternates .long)
+
+      pub all-filled : (z : List ℕ) → z ≡ flat (entriesOf f (length f)) (length f)
+          → take (length out - net .n * net .n) (y ++ drop (length out - net .n * net .n) out)
+          ++ (z ++ drop (length (y ++ drop (length out - net .n * net .n) out) - (length out - net .n * net .n)) (drop (length out - net .n * net .n) (y ++ drop (length out - net .n * net .n) out)))
+          ≡ tableBytes S
+      unfolding setWith whole split tableBytes hopTable
+      all-filled z q =
+          let rest : drop (length whole - split) (drop split whole) ≡ [] = ap (λ (j : ℕ). drop j (drop split whole)) (sym (length-drop split whole)) ∙ drop-length (drop split whole) in
+          ap₂ _++_ (take-at y (drop split out) split front ∙ D .hops)
+          (ap₂ _++_ q rest ∙ append-nil (flat (entriesOf f (length f)) (length f)) ∙ rw (D .alternates .long) (alternates-are f (D .alternates)))
+
+  -- ---- `in_room`
+  module _ (c : List ℕ) (d w alts : List (List ℕ)) (R : Roomy (net .m) (net .n) (length c) (length d) (length w) (length alts)) where
+    pub c-count : net .m ≡ length (take (net .m) c)
+    c-count = sym (length-take-le (net .m) c (R .c-room))
+
+    pub d-count : net .n ≡ length (take (net .n) d)
+    d-count = sym (length-take-le (net .n) d (R .d-room))
+
+    pub w-count : net .n ≡ length (take (net .n) w)
+    w-count = sym (length-take-le (net .n) w (R .w-room))
+
+    pub alts-count : net .n ≡ length (take (net .n) alts)
+    alts-count = sym (length-take-le (net .n) alts (R .alts-room))
+
+    pub room-work : Work S (take (net .m) c) (take (net .n) d) (take (net .n) w)
+    unfolding setWith
+    room-work = record { c-long = sym c-count; d-long = sym d-count; w-long = sym w-count }
+
+    pub room-alternates : length (take (net .n) alts) ≡ net .n
+    room-alternates = sym alts-count
+
+  -- ---- `fill_tables`
+  pub room-enough : Roomy (net .m) (net .n) 128 32 32 32
+  unfolding setWith
+  room-enough =
+      let q = A .rules .limits in
+      record { c-room = q .links .1; d-room = q .nodes .1; w-room = q .nodes .1; alts-room = q .nodes .1 }
 
 -- ---- `copy_row`, `copy_rows`
 pub copy-more : (r d e : List ℕ) (v : ℕ) → e ≡ upTo (entry r) v ++ drop v d → v < length e → length e ≡ length d → set e v (getD r v 0) ≡ upTo (entry r) (v + 1) ++ drop (v + 1) d

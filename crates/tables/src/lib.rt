@@ -158,3 +158,99 @@ fn copy_rows(alts: &[[u8; 32]], out: &mut [u8])
         u += 1;
     }
 }
+
+// Next hops, then alternates.
+fn all_tables<'a>(
+    net: Network,
+    a: &[u8],
+    b: &[u8],
+    weights: &'a [u16],
+    homes: &[u8],
+    rows: &'a [u16],
+    c: &mut [u32],
+    d: &mut [[u32; 32]],
+    w: &mut [[u32; 32]],
+    alts: &mut [[u8; 32]],
+    out: &mut [u8],
+)
+    requires { ⌜ AcceptedSet (setWith net (lists (now a) (now b) (now weights) (now homes) (now rows))) ⌝ }
+    requires { ⌜ Work (setWith net (lists (now a) (now b) (now weights) (now homes) (now rows))) (now c) (now d) (now w) ⌝ }
+    requires { ⌜ (length (now alts) ≡ net .n) × (length (now out) ≡ tablesLength net) ⌝ }
+    ensures { λ _. ⌜ now (out .exit) ≡ tableBytes (setWith net (lists (now (a .entry)) (now (b .entry)) (now (weights .entry)) (now (homes .entry)) (now (rows .entry)))) ⌝ }
+{
+    let n = net.n as usize;
+    let split = out.len() - n * n;
+    topologies(net, a, b, weights, homes, rows, c, d, w, alts, &mut out[..split]);
+    copy_rows(alts, &mut out[split..]);
+}
+
+// The same in the first entries and rows of lists that may be longer.
+fn in_room<'a>(
+    net: Network,
+    a: &[u8],
+    b: &[u8],
+    weights: &'a [u16],
+    homes: &[u8],
+    rows: &'a [u16],
+    c: &mut [u32],
+    d: &mut [[u32; 32]],
+    w: &mut [[u32; 32]],
+    alts: &mut [[u8; 32]],
+    out: &mut [u8],
+)
+    requires { ⌜ AcceptedSet (setWith net (lists (now a) (now b) (now weights) (now homes) (now rows))) ⌝ }
+    requires { ⌜ Roomy (net .m) (net .n) (length (now c)) (length (now d)) (length (now w)) (length (now alts)) ⌝ }
+    requires { ⌜ length (now out) ≡ tablesLength net ⌝ }
+    ensures { λ _. ⌜ now (out .exit) ≡ tableBytes (setWith net (lists (now (a .entry)) (now (b .entry)) (now (weights .entry)) (now (homes .entry)) (now (rows .entry)))) ⌝ }
+{
+    let m = net.m as usize;
+    let n = net.n as usize;
+    all_tables(
+        net,
+        a,
+        b,
+        weights,
+        homes,
+        rows,
+        &mut c[..m],
+        &mut d[..n],
+        &mut w[..n],
+        &mut alts[..n],
+        out,
+    );
+}
+
+// The tables of an accepted set that is held as lists.
+pub fn fill_tables<'a>(
+    net: Network,
+    a: &[u8],
+    b: &[u8],
+    weights: &'a [u16],
+    homes: &[u8],
+    rows: &'a [u16],
+    out: &mut [u8],
+)
+    requires { ⌜ AcceptedSet (setWith net (lists (now a) (now b) (now weights) (now homes) (now rows))) ⌝ }
+    requires { ⌜ length (now out) ≡ tablesLength net ⌝ }
+    ensures { λ _. ⌜ now (out .exit) ≡ tableBytes (setWith net (lists (now (a .entry)) (now (b .entry)) (now (weights .entry)) (now (homes .entry)) (now (rows .entry)))) ⌝ }
+{
+    let row = [0u32; 32];
+    let bytes = [0u8; 32];
+    let mut c = [0u32; 128];
+    let mut d = [row; 32];
+    let mut w = [row; 32];
+    let mut alts = [bytes; 32];
+    in_room(
+        net,
+        a,
+        b,
+        weights,
+        homes,
+        rows,
+        &mut c,
+        &mut d,
+        &mut w,
+        &mut alts,
+        out,
+    );
+}
