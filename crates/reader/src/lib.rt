@@ -116,7 +116,7 @@ pub fn rows_into(file: &[u8], net: Network, out: &mut [u16])
 // ---- all lists
 
 // Everything after the header.
-fn lists_into(
+pub fn lists_into(
     file: &[u8],
     net: Network,
     a: &mut [u8],
