@@ -61,27 +61,29 @@ pub ruleset laying = (laying-none, laying-more, laying-done, byte-at, two-at)
 -- ---- the fields of the records
 
 module _ (s d e : List ℕ) (m : ℕ) where
+  -- entries that are the same one by one
+  alike : (f g : ℕ → ℕ) → ((x : ℕ) → f x ≡ g x) → e ≡ laid (upTo f m) d → e ≡ laid (upTo g m) d
+  alike f g h p = p ∙ ap (λ (l : List ℕ). laid l d) (upTo-ext f g m (λ x l. h x))
+
   pub ends-a : e ≡ laid (upTo (byteAt s 10 6) m) d → e ≡ laid (upTo (endA s) m) d
   unfolding byteAt endA linkPlace
-  ends-a p = p ∙ ap (λ (l : List ℕ). laid l d) (upTo-ext (byteAt s 10 6) (endA s) m (λ x l. ap (λ (k : ℕ). getD s k 0) (omega arith)))
+  ends-a = alike (byteAt s 10 6) (endA s) (λ x. ap (λ (k : ℕ). getD s k 0) (omega arith))
 
   pub ends-b : e ≡ laid (upTo (byteAt s 11 6) m) d → e ≡ laid (upTo (endB s) m) d
   unfolding byteAt endB linkPlace
-  ends-b p = p ∙ ap (λ (l : List ℕ). laid l d) (upTo-ext (byteAt s 11 6) (endB s) m (λ x l. ap (λ (k : ℕ). getD s k 0) (omega arith)))
+  ends-b = alike (byteAt s 11 6) (endB s) (λ x. ap (λ (k : ℕ). getD s k 0) (omega arith))
 
   pub link-weights : e ≡ laid (upTo (twoAt s 12 6) m) d → e ≡ laid (upTo (linkWeight s) m) d
   unfolding twoAt linkWeight linkPlace
-  link-weights p = p ∙ ap (λ (l : List ℕ). laid l d) (upTo-ext (twoAt s 12 6) (linkWeight s) m (λ x l. ap (two s) (omega arith)))
+  link-weights = alike (twoAt s 12 6) (linkWeight s) (λ x. ap (two s) (omega arith))
 
   pub homes-are : (h : Network) (at : ℕ) → at ≡ homePlace h 0 → e ≡ laid (upTo (byteAt s (at + 3) 4) m) d → e ≡ laid (upTo (homeTopology s h) m) d
   unfolding byteAt homeTopology homePlace
-  homes-are h at q p =
-      p ∙ ap (λ (l : List ℕ). laid l d) (upTo-ext (byteAt s (at + 3) 4) (homeTopology s h) m (λ x l. ap (λ (k : ℕ). getD s k 0) (omega arith)))
+  homes-are h at q = alike (byteAt s (at + 3) 4) (homeTopology s h) (λ x. ap (λ (k : ℕ). getD s k 0) (omega arith))
 
   pub row-is : (h : Network) (j at : ℕ) → at ≡ rowPlace h j → e ≡ laid (upTo (twoAt s (at + 3) 2) m) d → e ≡ laid (upTo (rowWeight s h j) m) d
   unfolding twoAt rowWeight
-  row-is h j at q p =
-      p ∙ ap (λ (l : List ℕ). laid l d) (upTo-ext (twoAt s (at + 3) 2) (rowWeight s h j) m (λ x l. ap (two s) (omega arith)))
+  row-is h j at q = alike (twoAt s (at + 3) 2) (rowWeight s h j) (λ x. ap (two s) (omega arith))
 
 pub ruleset fields = (ends-a, ends-b, link-weights, homes-are, row-is)
 
