@@ -6,7 +6,7 @@ pub mod rule; // rule.rt: the tests of each record
 use rules::Network;
 use rules::Verdict;
 ghost use mathlib.Core.Path.{_≡_};
-ghost use Prim.Native.Nat.{_+_, _*_, _<_};
+ghost use Prim.Native.Nat.{_<_};
 ghost use lib.ListN.{getD};
 ghost use Rattle.rules.specs.Basics.{need, all};
 ghost use Rattle.rules.specs.Limits.{rowWeights, rowLength, homeRecords, linkPlace, homePlace, rowPlace, fileLength};

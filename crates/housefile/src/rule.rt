@@ -2,7 +2,7 @@
 // other, in 01's order, and promises the number of the first that fails.
 use rules::Network;
 ghost use mathlib.Core.Path.{_≡_};
-ghost use Prim.Native.Nat.{_+_, _*_, _<_};
+ghost use Prim.Native.Nat.{_+_, _*_};
 ghost use lib.Dec.{eqb};
 ghost use Rattle.rules.specs.Basics.{need};
 ghost use Rattle.rules.specs.Limits.{needCounts};

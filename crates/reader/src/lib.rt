@@ -7,11 +7,11 @@ use rules::Network;
 use rules::ReadAnswer;
 use rules::Verdict;
 ghost use mathlib.Core.Path.{_≡_};
-ghost use Prim.Native.Nat.{_+_, _*_, _<_, _≤_};
+ghost use Prim.Native.Nat.{_*_, _<_, _≤_};
 ghost use lib.ListN.{length};
 ghost use Rattle.rules.specs.Basics.{upTo, flat, laid};
-ghost use Rattle.rules.specs.Limits.{homeRecords, rowWeights};
-ghost use Rattle.rules.specs.File.{headerOf, endA, endB, linkWeight, homeTopology, rowWeight};
+ghost use Rattle.rules.specs.Limits.{rowWeights};
+ghost use Rattle.rules.specs.File.{endA, endB, linkWeight, homeTopology, rowWeight};
 ghost use Rattle.rules.specs.Entries.{lists, Promise, readEntry};
 ghost use Rattle.reader.specs.Reading.{byteAt, twoAt, rowOf, listsNumber, roomVerdict, readVerdict, Room, listsOf};
 
