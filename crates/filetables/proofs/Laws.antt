@@ -26,7 +26,7 @@ use Rattle.rules.proofs.Held.{net-held, homes-all}
 use Rattle.rules.proofs.Checked.{checked-set}
 use Rattle.rules.proofs.Lent.{bytes-long}
 use Rattle.reader.specs.Reading.{rowOf, listsOf, Room}
-use Rattle.filetables.specs.Parts.{Exact, Wide, tablesVerdict}
+use Rattle.filetables.specs.Parts.{Exact, Wide, Held, tablesVerdict}
 
 -- ---- lists of exactly the right lengths hold just the set's
 
@@ -70,11 +70,14 @@ room-of h d s n c x =
       rows = omega (arith, x .rows);
     }
 
-pub accepted-lists : (s : List ℕ) (h : Network) (d e : Lists) → h ≡ headerOf s → check s ≡ Accepted → Exact h d → e ≡ listsOf s h d → AcceptedSet (setWith h e)
-accepted-lists s h d e n c x q = subst (λ (S : Set). AcceptedSet S) (sym (held s h n c d e x q)) (checked-set s c)
+pub lists-held : (s : List ℕ) (h : Network) (d e : Lists) → h ≡ headerOf s → check s ≡ Accepted → Exact h d → e ≡ listsOf s h d → Held s h e
+lists-held s h d e n c x q = record { checked = c; set = held s h n c d e x q }
 
-pub tables-held : (s : List ℕ) (h : Network) (d e : Lists) (t : List ℕ) → h ≡ headerOf s → check s ≡ Accepted → Exact h d → e ≡ listsOf s h d → t ≡ tableBytes (setWith h e) → t ≡ tableBytes (setOf s)
-tables-held s h d e t n c x q g = g ∙ ap tableBytes (held s h n c d e x q)
+pub accepted-lists : (s : List ℕ) (h : Network) (d : Lists) → Held s h d → AcceptedSet (setWith h d)
+accepted-lists s h d H = subst (λ (S : Set). AcceptedSet S) (sym (H .set)) (checked-set s (H .checked))
+
+pub tables-held : (s : List ℕ) (h : Network) (d : Lists) (t : List ℕ) → Held s h d → t ≡ tableBytes (setWith h d) → t ≡ tableBytes (setOf s)
+tables-held s h d t H g = g ∙ ap tableBytes (H .set)
 
 -- ---- parts of longer lists
 
@@ -91,6 +94,25 @@ module _ (s : List ℕ) (h : Network) (n : h ≡ headerOf s) (c : check s ≡ Ac
   pub rows-fit : h .k * rowWeights h ≤ 4096
   unfolding rowWeights
   rows-fit = mul-le-mul {n₂ = 32} {m₂ = 128} (limits .topologies .0) (limits .links .1)
+
+  module _ (a b w v r : List ℕ) (x : Wide (lists a b w v r)) where
+    pub a-fits : h .m ≤ length a
+    a-fits = omega (arith, links-fit, x .a)
+
+    pub b-fits : h .m ≤ length b
+    b-fits = omega (arith, links-fit, x .b)
+
+    pub weights-fit : h .m ≤ length w
+    weights-fit = omega (arith, links-fit, x .weights)
+
+    pub homes-fit : h .n ≤ length v
+    homes-fit = omega (arith, nodes-fit, x .homes)
+
+    pub entries-fit : (entries : ℕ) → entries ≡ h .k * rowWeights h → entries ≤ length r
+    entries-fit entries e = omega (arith, rows-fit, x .rows)
+
+pub prefix-long : (n : ℕ) (l : List ℕ) → n ≤ length l → n ≡ length (take n l)
+prefix-long n l h = sym (length-take-le n l h)
 
 pub parts-exact : (s : List ℕ) (h : Network) (a b w v r : List ℕ) (entries : ℕ) → h ≡ headerOf s → check s ≡ Accepted → Wide (lists a b w v r) → entries ≡ h .k * rowWeights h → Exact h (lists (take (h .m) a) (take (h .m) b) (take (h .m) w) (take (h .n) v) (take entries r))
 parts-exact s h a b w v r entries n c x e =
@@ -153,4 +175,4 @@ tables-refused s out v number place e d =
     let z : tablesEntry .verdict s out ≡ Refused number place = verdict-same s out ∙ sym d ∙ e in
     record { answer = rw z; lent = rw z }
 
-pub ruleset tabling = (room-of, accepted-lists, tables-held, links-fit, nodes-fit, rows-fit, parts-exact, wide, verdict-is, room-part, part-long, is-checked, tables-taken, tables-refused)
+pub ruleset tabling = (room-of, lists-held, accepted-lists, tables-held, a-fits, b-fits, weights-fit, homes-fit, entries-fit, prefix-long, parts-exact, wide, verdict-is, room-part, part-long, is-checked, tables-taken, tables-refused)

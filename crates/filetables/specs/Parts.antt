@@ -6,11 +6,12 @@ use lib.Dec.{leb}
 use lib.ListN.{length}
 use Rattle.rules.specs.declared.Network.{Network}
 use Rattle.rules.specs.declared.Verdict.{Verdict}
+use Rattle.rules.specs.declared.Verdict.the-variants.{Accepted}
 use Rattle.rules.specs.Basics.{need}
 use Rattle.rules.specs.Limits.{homeRecords, rowWeights, tablesLength}
-use Rattle.rules.specs.File.{headerOf}
+use Rattle.rules.specs.File.{headerOf, setOf}
 use Rattle.rules.specs.Judgement.{refuse, andThen, check}
-use Rattle.rules.specs.Entries.{Lists}
+use Rattle.rules.specs.Entries.{Lists, setWith}
 
 -- lists that are exactly as long as a set's counts say
 pub record Exact (h : Network) (d : Lists) : Type 0 where
@@ -27,6 +28,11 @@ pub record Wide (d : Lists) : Type 0 where
   pub weights : 128 ≤ length (d .weights)
   pub homes : 32 ≤ length (d .homes)
   pub rows : 4096 ≤ length (d .rows)
+
+-- lists that hold the set of an accepted file
+pub record Held (s : List ℕ) (h : Network) (d : Lists) : Type 0 where
+  pub checked : check s ≡ Accepted
+  pub set : setWith h d ≡ setOf s
 
 unfoldable pub tablesVerdict : List ℕ → ℕ → Verdict
 tablesVerdict s room = andThen (check s) (refuse (need (leb (tablesLength (headerOf s)) room) 14 0) 0)

@@ -20,9 +20,27 @@ ghost use Rattle.rules.specs.File.{headerOf, setOf};
 ghost use Rattle.rules.specs.Distance.{tableBytes};
 ghost use Rattle.rules.specs.Judgement.{check};
 ghost use Rattle.rules.specs.Entries.{lists, Promise, tablesEntry};
-ghost use Rattle.filetables.specs.Parts.{Exact, Wide, tablesVerdict};
+ghost use Rattle.filetables.specs.Parts.{Exact, Wide, Held, tablesVerdict};
 
 // ---- from a file to its tables, by lists
+
+// Lists that hold the file's set.
+fn by_lists<'a>(
+    file: &[u8],
+    net: Network,
+    a: &[u8],
+    b: &[u8],
+    weights: &'a [u16],
+    homes: &[u8],
+    rows: &'a [u16],
+    out: &mut [u8],
+)
+    requires { ⌜ Held (now file) net (lists (now a) (now b) (now weights) (now homes) (now rows)) ⌝ }
+    requires { ⌜ length (now out) ≡ tablesLength net ⌝ }
+    ensures { λ _. ⌜ now (out .exit) ≡ tableBytes (setOf (now (file .entry))) ⌝ }
+{
+    fill_tables(net, a, b, weights, homes, rows, out);
+}
 
 // Lists that are exactly as long as the counts say.
 fn from_lists(
@@ -42,7 +60,7 @@ fn from_lists(
     ensures { λ _. ⌜ now (out .exit) ≡ tableBytes (setOf (now (file .entry))) ⌝ }
 {
     lists_into(file, net, a, b, weights, homes, rows);
-    fill_tables(net, a, b, weights, homes, rows, out);
+    by_lists(file, net, a, b, weights, homes, rows, out);
 }
 
 // Lists that are long enough for every set: their parts that the counts ask for.

@@ -339,14 +339,14 @@ BuildAnswers =
     → ((bytes : ℕ) × (r ≡ long.Length bytes)) ↔ Removable (setOf (i .file))
 
 -- how many topologies first fit takes where it is allowed n
-unfoldable pub needs : Set → ℕ
-needs G = highest (firstFit G (G .net .n)) (G .net .n)
+unfoldable pub topologiesNeeded : Set → ℕ
+topologiesNeeded G = highest (firstFit G (G .net .n)) (G .net .n)
 
--- 9 exactly where removing some one node disconnects the others; 10 exactly where none does and first fit needs more than the cap
+-- 9 exactly where removing some one node disconnects the others; 10 exactly where none does and first fit topologiesNeeded more than the cap
 abbrev pub RefusedExactly : Type 0
 RefusedExactly =
     (G : Set) (cap : ℕ) → MeetsRules G
-    → ((buildNumber G cap ≡ 9) ↔ (Removable G → ⊥)) × ((buildNumber G cap ≡ 10) ↔ (Removable G × (cap < needs G)))
+    → ((buildNumber G cap ≡ 9) ↔ (Removable G → ⊥)) × ((buildNumber G cap ≡ 10) ↔ (Removable G × (cap < topologiesNeeded G)))
 
 -- an accepted set's graph is connected, stays so without any one node, and has at least as many links as nodes
 pub record AcceptedGraph (S : Set) : Type 0 where

@@ -1,3 +1,4 @@
+use Rattle.filetables.proofs.Laws.{tabling}
 use borrow.Author.Needs.{needs}
 use Rattle.filetables.proofs.fill.Statement.{statement}
 use Rattle.filetables.proofs.fill.Tie as tie
@@ -51,7 +52,7 @@ slice-aggregate-in-parts-5 c = search needs
 
 -- src/lib.rt:116:5
 in-parts-requires : tie.Need-in-parts-requires
-in-parts-requires c κs = ?
+in-parts-requires c κs = (search needs, (search needs, (search tabling, search needs)))
 
 -- src/lib.rt:105:1
 same-length : tie.Need-same-length

@@ -1,3 +1,4 @@
+use Rattle.filetables.proofs.Laws.{tabling}
 use borrow.Author.Needs.{needs}
 use Rattle.filetables.proofs.in_parts.Statement.{statement}
 use Rattle.filetables.proofs.in_parts.Tie as tie
@@ -20,47 +21,47 @@ row-entries-requires c κs = search needs
 
 -- src/lib.rt:71:9
 slice-relend-prefix-from-lists : tie.Need-slice-relend-prefix-from-lists
-slice-relend-prefix-from-lists c = ?
+slice-relend-prefix-from-lists c = search tabling
 
 -- src/lib.rt:71:9
 slice-aggregate-from-lists : tie.Need-slice-aggregate-from-lists
-slice-aggregate-from-lists c = ?
+slice-aggregate-from-lists c = search tabling
 
 -- src/lib.rt:72:9
 slice-relend-prefix-from-lists-2 : tie.Need-slice-relend-prefix-from-lists-2
-slice-relend-prefix-from-lists-2 c = ?
+slice-relend-prefix-from-lists-2 c = search tabling
 
 -- src/lib.rt:72:9
 slice-aggregate-from-lists-2 : tie.Need-slice-aggregate-from-lists-2
-slice-aggregate-from-lists-2 c = ?
+slice-aggregate-from-lists-2 c = search tabling
 
 -- src/lib.rt:73:9
 slice-relend-prefix-from-lists-3 : tie.Need-slice-relend-prefix-from-lists-3
-slice-relend-prefix-from-lists-3 c = ?
+slice-relend-prefix-from-lists-3 c = search tabling
 
 -- src/lib.rt:73:9
 slice-aggregate-from-lists-3 : tie.Need-slice-aggregate-from-lists-3
-slice-aggregate-from-lists-3 c = ?
+slice-aggregate-from-lists-3 c = search tabling
 
 -- src/lib.rt:74:9
 slice-relend-prefix-from-lists-4 : tie.Need-slice-relend-prefix-from-lists-4
-slice-relend-prefix-from-lists-4 c = ?
+slice-relend-prefix-from-lists-4 c = search tabling
 
 -- src/lib.rt:74:9
 slice-aggregate-from-lists-4 : tie.Need-slice-aggregate-from-lists-4
-slice-aggregate-from-lists-4 c = ?
+slice-aggregate-from-lists-4 c = search tabling
 
 -- src/lib.rt:75:9
 slice-relend-prefix-from-lists-5 : tie.Need-slice-relend-prefix-from-lists-5
-slice-relend-prefix-from-lists-5 c = ?
+slice-relend-prefix-from-lists-5 c = search tabling
 
 -- src/lib.rt:75:9
 slice-aggregate-from-lists-5 : tie.Need-slice-aggregate-from-lists-5
-slice-aggregate-from-lists-5 c = ?
+slice-aggregate-from-lists-5 c = search tabling
 
 -- src/lib.rt:68:5
 from-lists-requires : tie.Need-from-lists-requires
-from-lists-requires c κs = ?
+from-lists-requires c κs = (search needs, (search needs, (search tabling, search needs)))
 
 -- src/lib.rt:49:1
 same-length : tie.Need-same-length

@@ -1,3 +1,4 @@
+use Rattle.filetables.proofs.Laws.{tabling}
 use borrow.Author.Needs.{needs}
 use Rattle.filetables.proofs.tables.Statement.{statement}
 use Rattle.filetables.proofs.tables.Tie as tie
@@ -26,15 +27,15 @@ tables-length-requires c κs = search needs
 
 -- src/lib.rt:147:29
 slice-relend-prefix-fill : tie.Need-slice-relend-prefix-fill
-slice-relend-prefix-fill c = ?
+slice-relend-prefix-fill c = search tabling
 
 -- src/lib.rt:147:29
 slice-aggregate-fill : tie.Need-slice-aggregate-fill
-slice-aggregate-fill c = ?
+slice-aggregate-fill c = search tabling
 
 -- src/lib.rt:147:13
 fill-requires : tie.Need-fill-requires
-fill-requires c κs = ?
+fill-requires c κs = (search tabling, (search needs, search tabling))
 
 -- src/lib.rt:150:28
 enum-known-v : tie.Need-enum-known-v
@@ -46,11 +47,11 @@ same-length c = search needs
 
 -- src/lib.rt:139:1
 returns : tie.Need-returns
-returns c = ?
+returns c = search tabling
 
 -- src/lib.rt:139:1
 returns-2 : tie.Need-returns-2
-returns-2 c = ?
+returns-2 c = search tabling
 
 pub tables-spec : {M : Type 1} → statement M
 tables-spec =

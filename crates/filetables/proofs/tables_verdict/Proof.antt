@@ -1,3 +1,4 @@
+use Rattle.filetables.proofs.Laws.{tabling}
 use borrow.Author.Needs.{needs}
 use Rattle.filetables.proofs.tables_verdict.Statement.{statement}
 use Rattle.filetables.proofs.tables_verdict.Tie as tie
@@ -31,7 +32,7 @@ then-requires c κs = search needs
 
 -- src/lib.rt:130:1
 returns : tie.Need-returns
-returns c = ?
+returns c = search tabling
 
 pub tables-verdict-spec : {M : Type 1} → statement M
 tables-verdict-spec =
