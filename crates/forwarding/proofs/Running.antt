@@ -50,11 +50,17 @@ module _ (s : List ℕ) (start : Packet) (tables nodes : List ℕ) (R : Ready s 
       ∙ run-same (setOf s) (checked-set s (R .set)) (on s f) (lentTables (setOf s .net) (laid (tableBytes (setOf s)) tables)) (lent-agree (setOf s) tables) (mostHops (setOf s .net)) start within
       ∙ ap (run (setOf s) (tablesOf (setOf s)) (on s f) (mostHops (setOf s .net))) e
 
-pub nodes-range : (s : List ℕ) (start : Packet) (tables nodes : List ℕ) (h : Network) → h ≡ headerOf s → Ready s start tables nodes → (3 ≤ h .n) × (h .n ≤ 32)
-nodes-range s start tables nodes h n R = rw n (limits s (R .set) .nodes)
+pub nodes-low : (s : List ℕ) (start : Packet) (tables nodes : List ℕ) (h : Network) → h ≡ headerOf s → Ready s start tables nodes → 3 ≤ h .n
+nodes-low s start tables nodes h n R = rw n (limits s (R .set) .nodes .0)
+
+pub nodes-high : (s : List ℕ) (start : Packet) (tables nodes : List ℕ) (h : Network) → h ≡ headerOf s → Ready s start tables nodes → h .n ≤ 32
+nodes-high s start tables nodes h n R = rw n (limits s (R .set) .nodes .1)
+
+pub prefix-long : (n : ℕ) (l : List ℕ) → n ≤ length l → n ≡ length (take n l)
+prefix-long n l h = sym (length-take-le n l h)
 
 pub tables-fit : (s : List ℕ) (start : Packet) (tables nodes : List ℕ) (h : Network) (bytes : ℕ) → bytes ≡ tablesLength h → h ≡ headerOf s → Ready s start tables nodes → bytes ≤ length tables
-tables-fit s start tables nodes h bytes e n R = rw (e, n) (R .tables)
+tables-fit s start tables nodes h bytes e n R = rw (e, n) (R .long)
 
 pub tables-part : (s : List ℕ) (start : Packet) (tables nodes : List ℕ) (h : Network) (bytes : ℕ) → bytes ≡ tablesLength h → h ≡ headerOf s → Ready s start tables nodes → length (take bytes tables) ≡ tablesLength h
 tables-part s start tables nodes h bytes e n R = length-take-le bytes tables (tables-fit s start tables nodes h bytes e n R) ∙ e
@@ -66,7 +72,7 @@ pub trail-fits : (s : List ℕ) (start : Packet) (tables nodes : List ℕ) (h : 
 unfolding mostHops trailRoom
 trail-fits s start tables nodes h most e n R =
     let l = limits s (R .set) .nodes .0 in
-    rw (e, n) (omega (arith, R .trail))
+    rw (e, n) (omega (arith, R .room))
 
 pub run-made : (s : List ℕ) (start : Packet) (tables nodes t nodes′ : List ℕ) (h : Network) (bytes most : ℕ) (f : Failure) (j : Journey) → h ≡ headerOf s → bytes ≡ tablesLength h → most ≡ mostHops h → Ready s start tables nodes
     → t ≡ tableBytes (setOf s) → RunsAs s (t ++ drop bytes tables) f start most nodes j nodes′ → Ran s start f (runLent tables nodes) j (runLent (t ++ drop bytes tables) nodes′)
@@ -108,8 +114,8 @@ module _ (s : List ℕ) (u t : ℕ) (f : Failure) (tables nodes : List ℕ) wher
         node = ltb-true _ _ (p1 .0);
         end = ltb-true _ _ (p2 .0);
         first = refl;
-        tables = leb-true _ _ (need-ok _ _ _ (refuse-zero _ 0 (then-first _ _ r2)) .0);
-        trail = leb-true _ _ (need-ok _ _ _ (refuse-zero _ 0 (then-second _ _ r2)) .0);
+        long = leb-true _ _ (need-ok _ _ _ (refuse-zero _ 0 (then-first _ _ r2)) .0);
+        room = leb-true _ _ (need-ok _ _ _ (refuse-zero _ 0 (then-second _ _ r2)) .0);
       }
 
   pub run-ended : (v : Verdict) (j : Journey) (after : RunLent) → v ≡ Accepted → v ≡ runVerdict (runInput s u t f) (length tables) (length nodes) → Ran s (packet u t 0) f (runLent tables nodes) j after
@@ -125,4 +131,4 @@ module _ (s : List ℕ) (u t : ℕ) (f : Failure) (tables nodes : List ℕ) wher
       let z : runEntry .verdict (runInput s u t f) (runLent tables nodes) ≡ Refused number place = verdict-same ∙ sym d ∙ e in
       record { answer = rw z; lent = rw z }
 
-pub ruleset running = (nodes-range, tables-fit, tables-part, is-set, trail-fits, run-made, run-verdict-is, run-ready, run-ended, run-refused)
+pub ruleset running = (nodes-low, nodes-high, prefix-long, tables-fit, tables-part, is-set, trail-fits, run-made, run-verdict-is, run-ready, run-ended, run-refused)

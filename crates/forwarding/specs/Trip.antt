@@ -62,8 +62,8 @@ pub record Ready (s : List ℕ) (start : Packet) (tables nodes : List ℕ) : Typ
   pub node : start .place < headerOf s .n
   pub end : start .destination < headerOf s .n
   pub first : start .topology ≡ 0
-  pub tables : tablesLength (headerOf s) ≤ length tables
-  pub trail : trailRoom (headerOf s) ≤ length nodes
+  pub long : tablesLength (headerOf s) ≤ length tables
+  pub room : trailRoom (headerOf s) ≤ length nodes
 
 -- the answer, the tables and the trail are those of the run
 pub record Ran (s : List ℕ) (start : Packet) (f : Failure) (before : RunLent) (r : Journey) (after : RunLent) : Type 0 where

@@ -1,3 +1,4 @@
+use borrow.Author.Needs.{needs}
 use Rattle.rules.specs.Forwarding.{hops, trail}
 use Prim.Native.Nat.{_-_}
 use Rattle.forwarding.proofs.Trips.{Travelling, travelling}
