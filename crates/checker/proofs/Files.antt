@@ -44,6 +44,8 @@ a-low s m l x E h e = let q = E .a-low l h in omega arith
 pub b-low : (s : List ℕ) (m l y : ℕ) → Ends s m → l < m → y ≡ endB s l → y < 32
 b-low s m l y E h e = let q = E .b-low l h in omega arith
 
+pub ruleset ends-low = (a-low, b-low)
+
 -- ---- isolated_word
 
 pub home-more : (s : List ℕ) (h : Network) (i v home w r : ℕ) → w ≡ word (homeIs s h i) v → home ≡ homeTopology s h v → r ≡ put (eqb home i) w v → v < h .n → h .n ≤ 32
