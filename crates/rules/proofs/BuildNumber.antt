@@ -11,7 +11,7 @@ use borrow.Author.Tests.{leb-true, leb-false, le-leb}
 use Rattle.rules.specs.Basics.{need, all, lowest}
 use Rattle.rules.specs.File.{Set}
 use Rattle.rules.specs.Building.{admits, firstTopology, homesAfter, firstFit, fits, highest, spared, buildNumber}
-use Rattle.rules.specs.Demands.{MeetsRules, Removable}
+use Rattle.rules.specs.Demands.{MeetsRules, Removable, needs}
 use Rattle.rules.proofs.Choices.{false-of, clash}
 use Rattle.rules.proofs.Numbers.{all-of, lowest-is, lowest-before, lowest-one}
 use Rattle.rules.proofs.Removal.{spared-exactly}
@@ -19,9 +19,6 @@ use Rattle.rules.proofs.FirstFit.{placed, home-n, home-high, succeeds, 
 use Rattle.rules.proofs.Built.{highest-most, highest-least}
 
 -- ---- what first fit needs: the topologies that it uses when it is allowed as many as there are nodes
-
-unfoldable pub needs : Set → ℕ
-needs G = highest (firstFit G (G .net .n)) (G .net .n)
 
 -- a first topology within two caps is the first under both
 given-same : (G : Set) (c d : ℕ) (homes : List ℕ) (v : ℕ) → firstTopology G c homes v ≤ c → firstTopology G c homes v ≤ d → firstTopology G d homes v ≡ firstTopology G c homes v

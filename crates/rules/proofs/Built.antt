@@ -12,10 +12,10 @@ use Rattle.rules.specs.Limits.{rowWeights}
 use Rattle.rules.specs.File.{Set, rowStart}
 use Rattle.rules.specs.Isolation.{joins, linkBetween, neighbours, home, isolated, Class, class, Normal, rowInForce}
 use Rattle.rules.specs.Building.{withHomes, firstFit, fits, highest, onNormal, filled, built}
-use Rattle.rules.specs.Demands.{at, Sound, MeetsRules, AcceptedSet, BuiltAccepted}
+use Rattle.rules.specs.Demands.{at, Sound, MeetsRules, AcceptedSet, BuiltAccepted, Fewer}
 use Rattle.rules.proofs.Rows.{length-upTo, getD-upTo, length-flat, getD-flat}
 use Rattle.rules.proofs.Held.{homes-all, row-entry}
-use Rattle.rules.proofs.Sound.{Fewer, fewer-isolated}
+use Rattle.rules.proofs.Sound.{fewer-isolated}
 use Rattle.rules.proofs.FirstFit.{homes-long, home-n, home-low, home-high, fitted-removable, fitted-sound}
 
 -- ---- the highest home

@@ -155,7 +155,7 @@ journey-one j j′ e =
     let k = kind-one (j .kind) (j′ .kind) (cc) in
     λ i. record { outcome = o i; hops = h i; topology = t i; kind = k i }
 
-run-one : (r r′ : RunAnswer) → runTells r ≡ runTells r′ → r ≡ r′
+pub run-one : (r r′ : RunAnswer) → runTells r ≡ runTells r′ → r ≡ r′
 unfolding runTells
 run-one (ran.Ended j) (ran.Ended j′) e = ap ran.Ended (journey-one j j′ (values-of (journeyValues j) (journeyValues j′) e))
 run-one (ran.Ended j) (ran.Refused number place) e = cc

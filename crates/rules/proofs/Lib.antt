@@ -12,6 +12,14 @@ pub mod Same
 pub mod Determined
 pub mod Order
 pub mod Examples
+pub mod Rounds
+pub mod Links
+pub mod Distances
+pub mod Homes
+pub mod Degree
+pub mod Reach
+pub mod Transit
+pub mod NextHops
 pub mod Walks
 pub mod Connected
 pub mod Sound
@@ -21,3 +29,12 @@ pub mod Built
 pub mod BuildNumber
 pub mod Checked
 pub mod BuildAnswers
+pub mod Steps
+pub mod Routing
+pub mod Runs
+pub mod Delivery
+pub mod Lines
+pub mod ChangeKinds
+pub mod Lent
+pub mod Answered
+pub mod Shown

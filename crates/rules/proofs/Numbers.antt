@@ -133,13 +133,16 @@ two-of p (suc n) h = go (two-of p n) (p n) refl
         record { one = n; other = s .0; apart = λ e. omega arith; one-passes = q; other-passes = s .2 }
     go r false q = let z : bit (p n) ≡ 0 = rw q in r (omega (arith, count-more p n))
 
+-- two different numbers below n that pass
+pub two-counted : (p : ℕ → Bool) (n a b : ℕ) → a < n → b < n → (a ≡ b → ⊥) → p a ≡ true → p b ≡ true → 2 ≤ count p n
+two-counted p n a b la lb apart ea eb =
+    let one = count-lt (λ x. false) (λ x. eqb x a) n a (λ x l e. absurd (false≢true e)) la refl (eq-eqb a a refl) in
+    let two = count-lt (λ x. eqb x a) p n b (λ x l e. rw (eqb-true x a e) ea) lb (ne-eqb b a (λ z. apart (sym z))) eb in
+    omega arith
+
 pub of-two : (p : ℕ → Bool) (n : ℕ) → ((x : ℕ) → p x ≡ true → x < n) → Two p → 2 ≤ count p n
 of-two p n below t =
-    let a = t .one in
-    let b = t .other in
-    let one = count-lt (λ x. false) (λ x. eqb x a) n a (λ x l e. absurd (false≢true e)) (below a (t .one-passes)) refl (eq-eqb a a refl) in
-    let two = count-lt (λ x. eqb x a) p n b (λ x l e. rw (eqb-true x a e) (t .one-passes)) (below b (t .other-passes)) (ne-eqb b a (λ z. t .apart (sym z))) (t .other-passes) in
-    omega arith
+    two-counted p n (t .one) (t .other) (below (t .one) (t .one-passes)) (below (t .other) (t .other-passes)) (t .apart) (t .one-passes) (t .other-passes)
 
 -- ---- lowest
 

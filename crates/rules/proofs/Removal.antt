@@ -13,13 +13,13 @@ use Rattle.rules.specs.Basics.{all}
 use Rattle.rules.specs.File.{Set}
 use Rattle.rules.specs.Isolation.{joins, linkBetween, neighbours, home, isolated, backbone, normalHop, connected}
 use Rattle.rules.specs.Building.{withHomes, homeless, spared}
-use Rattle.rules.specs.Demands.{Walk, Two, Sound, MeetsRules, AcceptedSet, avoiding, OthersJoined, Removable}
+use Rattle.rules.specs.Demands.{Walk, Two, Sound, MeetsRules, AcceptedSet, avoiding, OthersJoined, Removable, Fewer}
 use Rattle.rules.proofs.Choices.{and-of, and-left, and-right, or-cases}
 use Rattle.rules.proofs.Numbers.{all-at, all-of, lowest-is}
 use Rattle.rules.proofs.Held.{homes-all}
 use Rattle.rules.proofs.Walks.{leaves, walk-map}
 use Rattle.rules.proofs.Connected.{Joined, backbone-of, backbone-node, backbone-free, hop-of, hop-link, hop-from, hop-to, connected-joined, joined-connected}
-use Rattle.rules.proofs.Sound.{Fewer, fewer-isolated}
+use Rattle.rules.proofs.Sound.{fewer-isolated}
 
 -- ---- links join nodes
 

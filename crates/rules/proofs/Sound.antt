@@ -11,7 +11,7 @@ use Rattle.rules.specs.declared.Verdict.the-variants.{Accepted}
 use Rattle.rules.specs.File.{Set}
 use Rattle.rules.specs.Isolation.{neighbours, isolated, backbone, normalHop, connected, restrictedLinks, twoLinks, topologyNumber}
 use Rattle.rules.specs.Judgement.{refuse, topologies}
-use Rattle.rules.specs.Demands.{Walk, stay, go, Two, Sound}
+use Rattle.rules.specs.Demands.{Walk, stay, go, Two, Sound, Fewer}
 use Rattle.rules.proofs.Choices.{and-of, and-left, and-right, or-left, or-right, false-of, clash, same-test, refuse-ok, refuse-zero, turn-all, turn-each}
 use Rattle.rules.proofs.Order.{seven-first, eight-next, no-number}
 use Rattle.rules.proofs.Numbers.{all-at, all-of, two-of, of-two}
@@ -86,12 +86,6 @@ module _ (S : Set) where
   topologies-exactly = (topologies-sound, sound-topologies)
 
 -- ---- what isolates fewer nodes keeps the rules
-
--- S′ has the nodes and the links of S, and what topology j of S′ isolates topology i of S isolates too
-pub record Fewer (S : Set) (i : ℕ) (S′ : Set) (j : ℕ) : Type 0 where
-  pub nodes : S′ .net .n ≡ S .net .n
-  pub links : (u w : ℕ) → neighbours S′ u w ≡ neighbours S u w
-  pub fewer : (v : ℕ) → v < S .net .n → isolated S′ j v ≡ true → isolated S i v ≡ true
 
 module _ (S S′ : Set) (i j : ℕ) (F : Fewer S i S′ j) (s : Sound S i) where
   wider : (v : ℕ) → backbone S i v ≡ true → backbone S′ j v ≡ true
