@@ -1,11 +1,11 @@
 -- What the builder answers and leaves, verdict by verdict.
-use mathlib.Core.Path.{_≡_, refl, sym, ap, ap₂, subst, _∙_}
+use mathlib.Core.Path.{_≡_, refl, sym, ap, subst, _∙_}
 use mathlib.Core.Bool.{Bool, true, false}
 use mathlib.Core.List.{List, [], _∷_}
-use Prim.Native.Nat.{ℕ, zero, suc, _+_, _-_, _≤_, _<_}
+use Prim.Native.Nat.{ℕ, zero, suc, _-_, _≤_, _<_}
 use native.Mathlib.Omega.{arith}
 use lib.Dec.{eqb, leb}
-use lib.ListN.{length, getD, take, replicate, length-replicate}
+use lib.ListN.{length, take, replicate, length-replicate}
 use Rattle.rules.specs.declared.Network.{Network}
 use Rattle.rules.specs.declared.Verdict.{Verdict}
 use Rattle.rules.specs.declared.Verdict.the-variants.{Accepted, Refused}
@@ -18,7 +18,7 @@ use Rattle.rules.specs.Building.{fits, firstFit, highest, filled, built, spared
 use Rattle.rules.specs.Judgement.{refuse, andThen, judge, needGraph, needCap, needFit, needRoom}
 use Rattle.rules.specs.Answers.{tell, lengthTells}
 use Rattle.rules.specs.Entries.{Promise, onAccept, builtFrom, buildEntry}
-use Rattle.rules.proofs.Choices.{need-yes, need-no, need-le, need-le-no, need-eq, need-eq-no, refuse-no, refuse-ok, refuse-zero, need-ok, then-ok, then-no, then-first, then-second, then-on, then-stop}
+use Rattle.rules.proofs.Choices.{need-yes, need-no, need-le, need-le-no, need-eq, need-eq-no, refuse-no, refuse-ok, refuse-zero, need-ok, then-ok, then-no, then-first, then-second, then-on}
 use Rattle.rules.proofs.Held.{net-held}
 use Rattle.checker.specs.Graph.{neighbourWords}
 use Rattle.checker.proofs.Same.{WordsOf}

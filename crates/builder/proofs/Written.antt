@@ -1,19 +1,17 @@
 -- The stores of a set, one after the other, lay its bytes at the front of the file.
 use mathlib.Core.Path.{_≡_, refl, sym, ap, ap₂, _∙_}
-use mathlib.Core.Bool.{Bool, true, false}
-use mathlib.Core.List.{List, [], _∷_, _++_, append-assoc}
+use mathlib.Core.List.{List, [], _∷_, _++_}
 use Prim.Native.Nat.{ℕ, zero, suc, _+_, _-_, _*_, _≤_, _<_}
-use native.Mathlib.Nat.{add-zero, zero-add, zero-mul, suc-mul}
+use native.Mathlib.Nat.{add-zero, zero-add}
 use native.Mathlib.Numerals.{add-one}
 use native.Mathlib.Omega.{arith}
-use lib.Dec.{eqb}
-use lib.ListN.{length, getD, set, take, drop}
+use lib.ListN.{length, getD, set, drop}
 use lib.Seq.{sets, sets-eq}
 use Rattle.rules.specs.declared.Network.{Network}
 use Rattle.rules.specs.Basics.{upTo, flat, laid}
 use Rattle.rules.specs.Limits.{rowWeights, rowLength, homeRecords, linkPlace, homePlace, rowPlace, fileLength}
-use Rattle.rules.specs.File.{Set, setOf, headerOf, bytes2, headerBytes, linkBytes, homeBytes, rowStart, rowBytes, encode, endA, endB, linkWeight}
-use Rattle.rules.specs.Isolation.{class, classBy, isolated, home}
+use Rattle.rules.specs.File.{setOf, headerOf, bytes2, headerBytes, linkBytes, homeBytes, rowStart, rowBytes, encode}
+use Rattle.rules.specs.Isolation.{class, home}
 use Rattle.rules.specs.Building.{withHomes, onNormal, highest, filled}
 use Rattle.rules.proofs.Rows.{length-upTo, getD-upTo, length-flat, getD-flat, flat-ext}
 use Rattle.rules.proofs.Held.{isolated-by-home, a-held, b-held, weight-held}

@@ -1,5 +1,4 @@
 -- Bytes stored one after the other into a lent file, and the records of a set stored each at its place.
-use mathlib.Core.Bool.{Bool}
 use mathlib.Core.List.{List, [], _∷_}
 use Prim.Native.Nat.{ℕ, zero, suc, _+_, _*_}
 use lib.Dec.{eqb}
