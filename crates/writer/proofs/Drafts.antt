@@ -13,13 +13,13 @@ use Rattle.rules.specs.Limits.{homeRecords, rowWeights, linkPlace, homePlace, r
 use Rattle.rules.specs.File.{Set, encode, rowStart, endA, endB, homeNode, homeTopology, rowTopology, rowWeight}
 use Rattle.rules.specs.Judgement.{refuse, andThen, inTurn, rises, linkNumber, homeNumber, rowWeightFits, rowNumber, records}
 use Rattle.rules.specs.Entries.{lists, setWith}
-use Rattle.rules.proofs.Choices.{refuse-zero, then-on, then-stop, turn-more, turn-refuse, turn-count, turn-each, turn-agree, need-eq}
+use Rattle.rules.proofs.Choices.{refuse-zero, then-on, then-stop, turn-count, turn-each, turn-agree, need-eq}
 use Rattle.rules.proofs.Numbers.{all-ext}
 use Rattle.rules.proofs.Encoded.{link-marked, endA-back, endB-back, linkWeight-back, home-marked, homeNode-back, homeTopology-back, row-marked, rowTopology-back, rowWeight-back}
 use Rattle.rules.proofs.Held.{homes-all}
 use Rattle.rules.proofs.Records.{mark-on, link-meets}
-use Rattle.housefile.specs.Rules.{linkRule, homeRule, weightRule, linkVerdict, homeVerdict, rowVerdict, homesThenRows}
-use Rattle.housefile.proofs.InTurn.{Ranked, ranked-more, link-number, link-refused, link-taken, home-number, home-refused, home-taken, fits-is, row-refused, row-taken, records-on, records-stop}
+use Rattle.housefile.specs.Rules.{linkRule, homeRule, weightRule, judged, homesThenRows}
+use Rattle.housefile.proofs.InTurn.{turn-taken, turn-refused, Ranked, ranked-more, link-number, home-number, fits-is, records-on, records-stop}
 use Rattle.writer.specs.Parts.{linksOnly, homesOnly, backupOnly, EndsInside, backupVerdict}
 
 -- ---- links
@@ -112,8 +112,8 @@ module _ (h : Network) (a b weights homes rows : List ℕ) where
       let q : l < h .m = omega arith in
       cc (endA-back linked-part l q, endB-back linked-part l q, endA-back linked-part (suc l) p, endB-back linked-part (suc l) p, endA-back whole l q, endB-back whole l q, endA-back whole (suc l) p, endB-back whole (suc l) p)
 
-  link-same : (l : ℕ) → l < h .m → linkVerdict (encode linked-part) h l ≡ linkVerdict (encode whole) h l
-  unfolding linkVerdict linkNumber setWith
+  link-same : (l : ℕ) → l < h .m → judged (linkNumber (encode linked-part) h) linkPlace l ≡ judged (linkNumber (encode whole) h) linkPlace l
+  unfolding judged linkNumber setWith
   link-same l p =
       ap (λ (x : ℕ). refuse x (linkPlace l))
       (mark-on (encode linked-part) _ _ _ _ (link-marked linked-part l p)
@@ -123,8 +123,8 @@ module _ (h : Network) (a b weights homes rows : List ℕ) where
   abbrev homed-part : Set
   homed-part = homesOnly h homes
 
-  home-same : (v : ℕ) → v < homeRecords h → homeVerdict (encode homed-part) h v ≡ homeVerdict (encode whole) h v
-  unfolding homeVerdict homeNumber setWith
+  home-same : (v : ℕ) → v < homeRecords h → judged (homeNumber (encode homed-part) h) (homePlace h) v ≡ judged (homeNumber (encode whole) h) (homePlace h) v
+  unfolding judged homeNumber setWith
   home-same v p =
       ap (λ (x : ℕ). refuse x (homePlace h v))
       (mark-on (encode homed-part) _ _ _ _ (home-marked homed-part v p)
@@ -143,8 +143,8 @@ module _ (h : Network) (a b weights homes rows : List ℕ) where
         weight-of h a b homes rows weights inside j l p q,
       )
 
-  row-same : EndsInside h a b → (j : ℕ) → j < h .k → rowVerdict (encode backed-part) h j ≡ rowVerdict (encode whole) h j
-  unfolding rowVerdict setWith
+  row-same : EndsInside h a b → (j : ℕ) → j < h .k → judged (rowNumber (encode backed-part) h) (rowPlace h) j ≡ judged (rowNumber (encode whole) h) (rowPlace h) j
+  unfolding judged setWith
   row-same inside j p =
       ap (λ (x : ℕ). refuse x (rowPlace h j))
       (row-number backed-part j p
@@ -154,25 +154,25 @@ module _ (h : Network) (a b weights homes rows : List ℕ) where
   backup-same : EndsInside h a b → backupVerdict h a b homes rows ≡ homesThenRows (encode whole) h
   unfolding backupVerdict homesThenRows
   backup-same inside =
-      ap₂ andThen (turn-agree (homeVerdict (encode homed-part) h) (homeVerdict (encode whole) h) (homeRecords h) (λ v p _. home-same v p))
-      (turn-agree (rowVerdict (encode backed-part) h) (rowVerdict (encode whole) h) (h .k) (λ j p _. row-same inside j p))
+      ap₂ andThen (turn-agree (judged (homeNumber (encode homed-part) h) (homePlace h)) (judged (homeNumber (encode whole) h) (homePlace h)) (homeRecords h) (λ v p _. home-same v p))
+      (turn-agree (judged (rowNumber (encode backed-part) h) (rowPlace h)) (judged (rowNumber (encode whole) h) (rowPlace h)) (h .k) (λ j p _. row-same inside j p))
 
-  links-same : inTurn (linkVerdict (encode linked-part) h) (h .m) ≡ inTurn (linkVerdict (encode whole) h) (h .m)
-  links-same = turn-agree (linkVerdict (encode linked-part) h) (linkVerdict (encode whole) h) (h .m) (λ l p _. link-same l p)
+  links-same : inTurn (judged (linkNumber (encode linked-part) h) linkPlace) (h .m) ≡ inTurn (judged (linkNumber (encode whole) h) linkPlace) (h .m)
+  links-same = turn-agree (judged (linkNumber (encode linked-part) h) linkPlace) (judged (linkNumber (encode whole) h) linkPlace) (h .m) (λ l p _. link-same l p)
 
 -- once the links are accepted, their ends are nodes
-pub ends-in : (h : Network) (a b weights : List ℕ) (v : Verdict) → v ≡ inTurn (linkVerdict (encode (linksOnly h a b weights)) h) (h .m) → v ≡ Accepted → EndsInside h a b
-unfolding linkVerdict setWith
+pub ends-in : (h : Network) (a b weights : List ℕ) (v : Verdict) → v ≡ inTurn (judged (linkNumber (encode (linksOnly h a b weights)) h) linkPlace) (h .m) → v ≡ Accepted → EndsInside h a b
+unfolding judged setWith
 ends-in h a b weights v e t =
     let S : Set = linksOnly h a b weights in
     record {
       inside = λ l p.
-          let m = link-meets (encode S) h l (refuse-zero _ (linkPlace l) (turn-each (linkVerdict (encode S) h) (h .m) (sym e ∙ t) l p)) .ends in
+          let m = link-meets (encode S) h l (refuse-zero _ (linkPlace l) (turn-each (judged (linkNumber (encode S) h) linkPlace) (h .m) (sym e ∙ t) l p)) .ends in
           omega (arith, endA-back S l p, endB-back S l p);
     }
 
-module _ (h : Network) (homes : List ℕ) (n : ℕ) (v : Verdict) (e : v ≡ inTurn (homeVerdict (encode (homesOnly h homes)) h) n) (c : n ≡ homeRecords h) where
-  pub backup-on : (a b rows : List ℕ) (w : Verdict) → w ≡ inTurn (rowVerdict (encode (backupOnly h a b homes rows)) h) (h .k) → v ≡ Accepted → w ≡ backupVerdict h a b homes rows
+module _ (h : Network) (homes : List ℕ) (n : ℕ) (v : Verdict) (e : v ≡ inTurn (judged (homeNumber (encode (homesOnly h homes)) h) (homePlace h)) n) (c : n ≡ homeRecords h) where
+  pub backup-on : (a b rows : List ℕ) (w : Verdict) → w ≡ inTurn (judged (rowNumber (encode (backupOnly h a b homes rows)) h) (rowPlace h)) (h .k) → v ≡ Accepted → w ≡ backupVerdict h a b homes rows
   unfolding backupVerdict
   backup-on a b rows w d t = then-on v w _ _ t (turn-count _ n (homeRecords h) v e c) d
 
@@ -180,7 +180,7 @@ module _ (h : Network) (homes : List ℕ) (n : ℕ) (v : Verdict) (e : v ≡ inT
   unfolding backupVerdict
   backup-stop a b rows number place t = then-stop v _ _ number place t (turn-count _ n (homeRecords h) v e c)
 
-module _ (h : Network) (a b weights : List ℕ) (v : Verdict) (e : v ≡ inTurn (linkVerdict (encode (linksOnly h a b weights)) h) (h .m)) where
+module _ (h : Network) (a b weights : List ℕ) (v : Verdict) (e : v ≡ inTurn (judged (linkNumber (encode (linksOnly h a b weights)) h) linkPlace) (h .m)) where
   pub draft-on : (homes rows : List ℕ) (w : Verdict) → w ≡ backupVerdict h a b homes rows → v ≡ Accepted → w ≡ records (encode (setWith h (lists a b weights homes rows))) h
   draft-on homes rows w d t =
       records-on (encode (setWith h (lists a b weights homes rows))) h v (e ∙ links-same h a b weights homes rows) w t
@@ -190,10 +190,10 @@ module _ (h : Network) (a b weights : List ℕ) (v : Verdict) (e : v ≡ inTurn 
   draft-stop homes rows number place t =
       records-stop (encode (setWith h (lists a b weights homes rows))) h v (e ∙ links-same h a b weights homes rows) number place t
 
-pub ruleset link-drafts = (turn-more, turn-refuse, link-in, ranked-in, link-refused, link-taken)
+pub ruleset link-drafts = (turn-taken, turn-refused, link-in, ranked-in)
 
-pub ruleset home-drafts = (turn-more, turn-refuse, home-in, home-refused, home-taken)
+pub ruleset home-drafts = (turn-taken, turn-refused, home-in)
 
-pub ruleset row-drafts = (turn-more, turn-refuse, row-in, row-refused, row-taken)
+pub ruleset row-drafts = (turn-taken, turn-refused, row-in)
 
 pub ruleset drafts = (ends-in, backup-on, backup-stop, draft-on, draft-stop)

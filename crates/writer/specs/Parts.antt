@@ -7,10 +7,10 @@ use lib.Seq.{sets}
 use Rattle.rules.specs.declared.Network.{Network}
 use Rattle.rules.specs.declared.Verdict.{Verdict}
 use Rattle.rules.specs.Basics.{need}
-use Rattle.rules.specs.Limits.{needCounts, homeRecords, fileLength}
+use Rattle.rules.specs.Limits.{needCounts, homeRecords, homePlace, rowPlace, fileLength}
 use Rattle.rules.specs.File.{Set, bytes2, encode}
-use Rattle.rules.specs.Judgement.{refuse, andThen, inTurn, records, judge}
-use Rattle.housefile.specs.Rules.{homeVerdict, rowVerdict}
+use Rattle.rules.specs.Judgement.{refuse, andThen, inTurn, homeNumber, rowNumber, records, judge}
+use Rattle.housefile.specs.Rules.{judged}
 use Rattle.rules.specs.Entries.{Lists, lists, needLists, setWith}
 
 -- ---- a record's bytes depend on some of the lists alone: the sets that have these and no others
@@ -49,8 +49,8 @@ put d at bytes = sets d at bytes
 -- the homes in turn, then the rows
 unfoldable pub backupVerdict : Network → List ℕ → List ℕ → List ℕ → List ℕ → Verdict
 backupVerdict h a b homes rows =
-    andThen (inTurn (homeVerdict (encode (homesOnly h homes)) h) (homeRecords h))
-    (inTurn (rowVerdict (encode (backupOnly h a b homes rows)) h) (h .k))
+    andThen (inTurn (judged (homeNumber (encode (homesOnly h homes)) h) (homePlace h)) (homeRecords h))
+    (inTurn (judged (rowNumber (encode (backupOnly h a b homes rows)) h) (rowPlace h)) (h .k))
 
 -- 1 where a list of this length is under what it needs: m for the links, `count` homes, `all` weights of rows
 unfoldable pub shortNumber : ℕ → ℕ → ℕ → ℕ → ℕ → ℕ → ℕ → ℕ → ℕ

@@ -7,16 +7,16 @@ use rules::Verdict;
 ghost use mathlib.Core.Path.{_≡_};
 ghost use Prim.Native.Nat.{_<_};
 ghost use Rattle.rules.specs.Basics.{need, all};
-ghost use Rattle.rules.specs.Limits.{homeRecords};
+ghost use Rattle.rules.specs.Limits.{homeRecords, linkPlace, homePlace, rowPlace};
 ghost use Rattle.rules.specs.File.{encode};
-ghost use Rattle.rules.specs.Judgement.{inTurn, rowWeightFits, records};
+ghost use Rattle.rules.specs.Judgement.{inTurn, linkNumber, homeNumber, rowWeightFits, rowNumber, records};
 ghost use Rattle.rules.specs.Entries.{lists, setWith};
-ghost use Rattle.housefile.specs.Rules.{linkVerdict, homeVerdict, rowVerdict};
+ghost use Rattle.housefile.specs.Rules.{judged};
 ghost use Rattle.writer.specs.Parts.{linksOnly, homesOnly, backupOnly, EndsInside, backupVerdict};
 
 // The links in turn.
 fn links(net: Network, a: &[u8], b: &[u8], weights: &[u16]) -> Verdict
-    ensures { λ r. ⌜ r ≡ inTurn (linkVerdict (encode (linksOnly net (now (a .entry)) (now (b .entry)) (now (weights .entry)))) net) (net .m) ⌝ }
+    ensures { λ r. ⌜ r ≡ inTurn (judged (linkNumber (encode (linksOnly net (now (a .entry)) (now (b .entry)) (now (weights .entry)))) net) linkPlace) (net .m) ⌝ }
 {
     let m = net.m as usize;
     let mut last = 0;
@@ -39,7 +39,7 @@ fn links(net: Network, a: &[u8], b: &[u8], weights: &[u16]) -> Verdict
 // The homes in turn.
 fn homes(net: Network, homes: &[u8], count: usize) -> Verdict
     requires { ⌜ (count ≡ homeRecords net) × (count < 256) ⌝ }
-    ensures { λ r. ⌜ r ≡ inTurn (homeVerdict (encode (homesOnly net (now (homes .entry)))) net) count ⌝ }
+    ensures { λ r. ⌜ r ≡ inTurn (judged (homeNumber (encode (homesOnly net (now (homes .entry)))) net) (homePlace net)) count ⌝ }
 {
     let mut v = 0;
     while v < count {
@@ -86,7 +86,7 @@ fn weights(net: Network, a: &[u8], b: &[u8], homes: &[u8], rows: &[u16], j: usiz
 // The rows in turn.
 fn rows(net: Network, a: &[u8], b: &[u8], homes: &[u8], rows: &[u16]) -> Verdict
     requires { ⌜ EndsInside net (now a) (now b) ⌝ }
-    ensures { λ r. ⌜ r ≡ inTurn (rowVerdict (encode (backupOnly net (now (a .entry)) (now (b .entry)) (now (homes .entry)) (now (rows .entry)))) net) (net .k) ⌝ }
+    ensures { λ r. ⌜ r ≡ inTurn (judged (rowNumber (encode (backupOnly net (now (a .entry)) (now (b .entry)) (now (homes .entry)) (now (rows .entry)))) net) (rowPlace net)) (net .k) ⌝ }
 {
     let k = net.k as usize;
     let mut j = 0;

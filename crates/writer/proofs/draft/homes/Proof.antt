@@ -5,16 +5,17 @@ use borrow.Author.Needs.{needs}
 use Rattle.rules.proofs.Choices.{turn-done, turn-none}
 use Rattle.rules.specs.Basics.{count}
 use Rattle.rules.specs.File.{encode}
-use Rattle.rules.specs.Judgement.{inTurn}
+use Rattle.rules.specs.Limits.{homePlace}
+use Rattle.rules.specs.Judgement.{inTurn, homeNumber}
 use Rattle.rules.specs.declared.Verdict.the-variants.{Accepted}
-use Rattle.housefile.specs.Rules.{homeVerdict}
+use Rattle.housefile.specs.Rules.{judged}
 use Rattle.writer.proofs.Drafts.{home-drafts}
 use Rattle.writer.proofs.draft.homes.Statement.{statement}
 use Rattle.writer.proofs.draft.homes.Tie as tie
 use Rattle.writer.specs.Parts.{homesOnly}
 
 abbrev Inv-loop : tie.InvT-loop
-Inv-loop net homes count v₀ v = (v ≤ count) × (inTurn (homeVerdict (encode (homesOnly net homes)) net) v ≡ Accepted)
+Inv-loop net homes count v₀ v = (v ≤ count) × (inTurn (judged (homeNumber (encode (homesOnly net homes)) net) (homePlace net)) v ≡ Accepted)
 
 abbrev μ-loop : tie.MeasureT-loop
 μ-loop net homes count v₀ v = count - v

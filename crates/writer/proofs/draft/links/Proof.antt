@@ -4,17 +4,18 @@ use native.Mathlib.Omega.{arith}
 use borrow.Author.Needs.{needs}
 use Rattle.rules.proofs.Choices.{turn-done, turn-none}
 use Rattle.rules.specs.File.{encode}
-use Rattle.rules.specs.Judgement.{inTurn}
+use Rattle.rules.specs.Limits.{linkPlace}
+use Rattle.rules.specs.Judgement.{inTurn, linkNumber}
 use Rattle.rules.specs.declared.Verdict.the-variants.{Accepted}
 use Rattle.housefile.proofs.InTurn.{Ranked, ranked-none}
-use Rattle.housefile.specs.Rules.{linkVerdict}
+use Rattle.housefile.specs.Rules.{judged}
 use Rattle.writer.proofs.Drafts.{link-drafts}
 use Rattle.writer.proofs.draft.links.Statement.{statement}
 use Rattle.writer.proofs.draft.links.Tie as tie
 use Rattle.writer.specs.Parts.{linksOnly}
 
 abbrev Inv-loop : tie.InvT-loop
-Inv-loop net a b weights m last₀ l₀ last l = (l ≤ m) × (inTurn (linkVerdict (encode (linksOnly net a b weights)) net) l ≡ Accepted) × Ranked (encode (linksOnly net a b weights)) l last
+Inv-loop net a b weights m last₀ l₀ last l = (l ≤ m) × (inTurn (judged (linkNumber (encode (linksOnly net a b weights)) net) linkPlace) l ≡ Accepted) × Ranked (encode (linksOnly net a b weights)) l last
 
 abbrev μ-loop : tie.MeasureT-loop
 μ-loop net a b weights m last₀ l₀ last l = m - l

@@ -4,16 +4,17 @@ use native.Mathlib.Omega.{arith}
 use borrow.Author.Needs.{needs}
 use Rattle.rules.proofs.Choices.{turn-done, turn-none}
 use Rattle.rules.specs.File.{encode}
-use Rattle.rules.specs.Judgement.{inTurn}
+use Rattle.rules.specs.Limits.{rowPlace}
+use Rattle.rules.specs.Judgement.{inTurn, rowNumber}
 use Rattle.rules.specs.declared.Verdict.the-variants.{Accepted}
-use Rattle.housefile.specs.Rules.{rowVerdict}
+use Rattle.housefile.specs.Rules.{judged}
 use Rattle.writer.proofs.Drafts.{row-drafts}
 use Rattle.writer.proofs.draft.rows.Statement.{statement}
 use Rattle.writer.proofs.draft.rows.Tie as tie
 use Rattle.writer.specs.Parts.{backupOnly}
 
 abbrev Inv-loop : tie.InvT-loop
-Inv-loop net a b homes rows k j₀ j = (j ≤ k) × (inTurn (rowVerdict (encode (backupOnly net a b homes rows)) net) j ≡ Accepted)
+Inv-loop net a b homes rows k j₀ j = (j ≤ k) × (inTurn (judged (rowNumber (encode (backupOnly net a b homes rows)) net) (rowPlace net)) j ≡ Accepted)
 
 abbrev μ-loop : tie.MeasureT-loop
 μ-loop net a b homes rows k j₀ j = k - j
