@@ -24,7 +24,8 @@ use Rattle.checker.specs.Graph.{neighbourWords}
 use Rattle.checker.proofs.Same.{WordsOf}
 use Rattle.checker.proofs.Graph.{words-of, accepted-few}
 use Rattle.builder.specs.Fit.{allSpared, Placed}
-use Rattle.builder.specs.Stores.{storedSet}
+use Rattle.writer.specs.Parts.{put}
+use Rattle.builder.specs.Stores.{filledFile}
 use Rattle.builder.specs.Answer.{Gives}
 use Rattle.builder.proofs.Written.{written-is}
 use Rattle.builder.proofs.Fitted.{all-spared-same, passed-cap, all-placed, placed-homes}
@@ -63,7 +64,7 @@ module _ (s homes d : List ℕ) (net set : Network) (k bytes : ℕ) (en : net �
       gives-refused (refuse (need (leb (fileLength (filled (setOf s) homes .net)) (length d)) 14 0) 0) (filled (setOf s) homes) d 14 0
       (ap (λ (x : ℕ). refuse x 0) (sym (need-le-no (fileLength (filled (setOf s) homes .net)) (length d) 14 0 14 (omega arith) refl)) ∙ refuses 14 (λ z. omega arith))
 
-  pub room : (f : List ℕ) → bytes ≤ length d → f ≡ storedSet s homes set d → Gives (needRoom (fileLength (filled (setOf s) homes .net)) d) (filled (setOf s) homes) d (long.Length bytes) f
+  pub room : (f : List ℕ) → bytes ≤ length d → f ≡ put d 0 (filledFile s homes set) → Gives (needRoom (fileLength (filled (setOf s) homes .net)) d) (filled (setOf s) homes) d (long.Length bytes) f
   unfolding needRoom
   room f h ef =
       let e = long-is in

@@ -19,7 +19,7 @@ use Rattle.words.proofs.Members.{has-none, has-both, has-either, has-minus, has
 use Rattle.words.proofs.Tally.{ones-count, lowest-there}
 use Rattle.checker.specs.Graph.{entered}
 use Rattle.checker.specs.Topology.{backboneWord, normal, reachedWord, connectedBy, servedBy, allServed, numberBy}
-use Rattle.checker.proofs.Reached.{Reached, reached-one, reached-is}
+use Rattle.checker.proofs.Reached.{reached-one, reached-is}
 use Rattle.checker.proofs.Same.{both-low}
 
 pub past : (s : List ℕ) (i : ℕ) → length s ≤ i → 0 ≡ getD s i 0
