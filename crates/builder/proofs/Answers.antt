@@ -1,11 +1,11 @@
 -- What the builder answers and leaves, verdict by verdict.
-use mathlib.Core.Path.{_≡_, refl, sym, ap, ap₂, subst, _∙_}
+use mathlib.Core.Path.{_≡_, refl, sym, ap, subst, _∙_}
 use mathlib.Core.Bool.{Bool, true, false}
 use mathlib.Core.List.{List, [], _∷_}
-use Prim.Native.Nat.{ℕ, zero, suc, _+_, _-_, _≤_, _<_}
+use Prim.Native.Nat.{ℕ, zero, suc, _-_, _≤_, _<_}
 use native.Mathlib.Omega.{arith}
 use lib.Dec.{eqb, leb}
-use lib.ListN.{length, getD, take, replicate, length-replicate}
+use lib.ListN.{length, take, replicate, length-replicate}
 use Rattle.rules.specs.declared.Network.{Network}
 use Rattle.rules.specs.declared.Verdict.{Verdict}
 use Rattle.rules.specs.declared.Verdict.the-variants.{Accepted, Refused}
@@ -18,13 +18,14 @@ use Rattle.rules.specs.Building.{fits, firstFit, highest, filled, built, spared
 use Rattle.rules.specs.Judgement.{refuse, andThen, judge, needGraph, needCap, needFit, needRoom}
 use Rattle.rules.specs.Answers.{tell, lengthTells}
 use Rattle.rules.specs.Entries.{Promise, onAccept, builtFrom, buildEntry}
-use Rattle.rules.proofs.Choices.{need-yes, need-no, need-le, need-le-no, need-eq, need-eq-no, refuse-no, refuse-ok, refuse-zero, need-ok, then-ok, then-no, then-first, then-second, then-on, then-stop}
+use Rattle.rules.proofs.Choices.{need-yes, need-no, need-le, need-le-no, need-eq, need-eq-no, refuse-no, refuse-ok, refuse-zero, need-ok, then-ok, then-no, then-first, then-second, then-on}
 use Rattle.rules.proofs.Held.{net-held}
 use Rattle.checker.specs.Graph.{neighbourWords}
 use Rattle.checker.proofs.Same.{WordsOf}
 use Rattle.checker.proofs.Graph.{words-of, accepted-few}
 use Rattle.builder.specs.Fit.{allSpared, Placed}
-use Rattle.builder.specs.Stores.{storedSet}
+use Rattle.writer.specs.Parts.{put}
+use Rattle.builder.specs.Stores.{filledFile}
 use Rattle.builder.specs.Answer.{Gives}
 use Rattle.builder.proofs.Written.{written-is}
 use Rattle.builder.proofs.Fitted.{all-spared-same, passed-cap, all-placed, placed-homes}
@@ -63,7 +64,7 @@ module _ (s homes d : List ℕ) (net set : Network) (k bytes : ℕ) (en : net �
       gives-refused (refuse (need (leb (fileLength (filled (setOf s) homes .net)) (length d)) 14 0) 0) (filled (setOf s) homes) d 14 0
       (ap (λ (x : ℕ). refuse x 0) (sym (need-le-no (fileLength (filled (setOf s) homes .net)) (length d) 14 0 14 (omega arith) refl)) ∙ refuses 14 (λ z. omega arith))
 
-  pub room : (f : List ℕ) → bytes ≤ length d → f ≡ storedSet s homes set d → Gives (needRoom (fileLength (filled (setOf s) homes .net)) d) (filled (setOf s) homes) d (long.Length bytes) f
+  pub room : (f : List ℕ) → bytes ≤ length d → f ≡ put d 0 (filledFile s homes set) → Gives (needRoom (fileLength (filled (setOf s) homes .net)) d) (filled (setOf s) homes) d (long.Length bytes) f
   unfolding needRoom
   room f h ef =
       let e = long-is in

@@ -1,22 +1,22 @@
 -- First fit over words is first fit of 01, for a graph and its neighbour words.
-use mathlib.Core.Path.{_≡_, refl, sym, ap, ap₂, _∙_}
+use mathlib.Core.Path.{_≡_, refl, sym, ap, _∙_}
 use mathlib.Core.Bool.{Bool, true, false, _&&_}
 use mathlib.Core.List.{List}
-use Prim.Native.Nat.{ℕ, zero, suc, _+_, _-_, _≤_, _<_}
+use Prim.Native.Nat.{ℕ, zero, suc, _-_, _≤_, _<_}
 use native.Mathlib.Omega.{arith}
 use lib.Dec.{eqb, ltb, leb}
-use lib.ListN.{length, getD, set, replicate, length-set, length-replicate}
-use borrow.Author.Tests.{eqb-true, eq-eqb, lt-ltb, le-leb, leb-true}
-use Rattle.rules.specs.Basics.{all, lowest}
+use lib.ListN.{length, getD, set}
+use borrow.Author.Tests.{eqb-true, lt-ltb, le-leb, leb-true}
+use Rattle.rules.specs.Basics.{all}
 use Rattle.rules.specs.File.{Set}
-use Rattle.rules.specs.Isolation.{joins, linkBetween, neighbours, home, isolated, isolatedWord, word, connected, topologyNumber}
+use Rattle.rules.specs.Isolation.{joins, linkBetween, neighbours, home, isolated, isolatedWord}
 use Rattle.rules.specs.Building.{withHomes, homeless, admits, firstTopology, homesAfter, firstFit, fits, spared}
-use Rattle.rules.proofs.Choices.{and-of, and-left, and-right, false-of, same-test}
+use Rattle.rules.proofs.Choices.{false-of}
 use Rattle.rules.proofs.Numbers.{all-at, all-of, all-ext, lowest-ext}
 use Rattle.rules.proofs.Removal.{alone-isolates}
 use Rattle.rules.proofs.FirstFit.{homes-long, placed}
-use Rattle.words.specs.Word.{has, adding, only}
-use Rattle.words.proofs.Members.{has-ext, has-one, has-word, word-ext, only-fits}
+use Rattle.words.specs.Word.{only}
+use Rattle.words.proofs.Members.{has-ext, has-one, word-ext, only-fits}
 use Rattle.checker.specs.Topology.{backboneWord, connectedBy, numberBy}
 use Rattle.checker.proofs.Same.{WordsOf, has-isolated, isolated-fits, connected-same, number-same}
 use Rattle.builder.specs.Fit.{sparedBy, allSpared, isolatedBy, wordAdmits, admitsBy, firstBy, homesBy, Placed}

@@ -1,22 +1,22 @@
 -- First fit as it runs: what the proofs of its functions cite.
-use mathlib.Core.Path.{_≡_, refl, sym, ap, ap₂, _∙_}
-use mathlib.Core.Bool.{Bool, true, false, not, _&&_, _||_, true≢false}
+use mathlib.Core.Path.{_≡_, refl, sym, ap, _∙_}
+use mathlib.Core.Bool.{Bool, true, false, _&&_, _||_, true≢false}
 use mathlib.Core.List.{List}
-use Prim.Native.Nat.{ℕ, zero, suc, _+_, _-_, _^_, _≤_, _<_, max}
+use Prim.Native.Nat.{ℕ, suc, _+_, _-_, _≤_, _<_, max}
 use native.Mathlib.Numerals.{add-one}
 use native.Mathlib.Omega.{arith}
 use lib.Dec.{eqb, ltb}
 use lib.ListN.{length, getD, set, replicate, length-set, length-replicate}
 use lib.Seq.{getD-set-same, getD-set-other}
-use borrow.Author.Tests.{eqb-true, eqb-false, eq-eqb, ne-eqb, ltb-true, lt-ltb}
+use borrow.Author.Tests.{eqb-true, eqb-false, eq-eqb, ne-eqb, lt-ltb}
 use Rattle.rules.specs.Basics.{all, lowest}
 use Rattle.rules.specs.Isolation.{word}
 use Rattle.rules.specs.Building.{highest}
-use Rattle.rules.proofs.Choices.{and-of, and-left, and-right, false-of, clash, same-test}
+use Rattle.rules.proofs.Choices.{and-of, false-of}
 use Rattle.rules.proofs.Numbers.{all-at, lowest-one, lowest-none}
 use Rattle.rules.proofs.Removal.{homeless-at}
-use Rattle.words.specs.Word.{has, adding, only}
-use Rattle.words.proofs.Members.{has-ext, has-none, has-word, has-adding, adding-fits, word-fits, word-ext, only-fits}
+use Rattle.words.specs.Word.{adding, only}
+use Rattle.words.proofs.Members.{has-ext, has-none, has-word, has-adding, adding-fits, word-fits, word-ext}
 use Rattle.checker.specs.Graph.{entered}
 use Rattle.checker.specs.Topology.{backboneWord, connectedBy, numberBy}
 use Rattle.builder.specs.Fit.{sparedBy, allSpared, isolatedBy, wordAdmits, admitsBy, firstBy, homesBy, Placed}

@@ -1,12 +1,11 @@
 -- What the proofs of the functions over a file's bytes cite.
-use mathlib.Core.Path.{_≡_, refl, sym, ap, ap₂, subst, _∙_}
-use mathlib.Core.Bool.{Bool, true, false}
+use mathlib.Core.Path.{_≡_, refl, sym, ap, _∙_}
 use mathlib.Core.List.{List, []}
-use Prim.Native.Nat.{ℕ, zero, suc, _+_, _≤_, _<_}
+use Prim.Native.Nat.{ℕ, suc, _+_, _≤_, _<_}
 use native.Mathlib.Numerals.{add-one}
 use native.Mathlib.Omega.{arith}
 use lib.Dec.{eqb, leb}
-use lib.ListN.{length, replicate}
+use lib.ListN.{replicate}
 use Rattle.rules.specs.declared.Network.{Network}
 use Rattle.rules.specs.declared.Verdict.{Verdict}
 use Rattle.rules.specs.declared.Verdict.the-variants.{Accepted, Refused}
@@ -16,7 +15,7 @@ use Rattle.rules.specs.Isolation.{word, isolatedWord, topologyNumber}
 use Rattle.rules.specs.Judgement.{refuse, inTurn, andThen, judge, needSet, topologies, check}
 use Rattle.rules.specs.Answers.{tell, verdictTells}
 use Rattle.rules.specs.Entries.{Promise, NothingLent, onAccept, checkEntry}
-use Rattle.rules.proofs.Choices.{need-yes, need-le, need-le-no, refuse-no, refuse-ok, then-ok, then-no, then-on, then-stop, turn-none, turn-more, turn-stop, turn-on, turn-out, turn-done}
+use Rattle.rules.proofs.Choices.{need-le, need-le-no, refuse-no, refuse-ok, then-ok, then-no, then-on, then-stop, turn-none, turn-more, turn-stop, turn-done}
 use Rattle.words.specs.Word.{put}
 use Rattle.words.proofs.Members.{word-more}
 use Rattle.checker.specs.Graph.{entered, linked, neighbourWords, homeIs, Ends}
@@ -43,6 +42,8 @@ a-low s m l x E h e = let q = E .a-low l h in omega arith
 
 pub b-low : (s : List ℕ) (m l y : ℕ) → Ends s m → l < m → y ≡ endB s l → y < 32
 b-low s m l y E h e = let q = E .b-low l h in omega arith
+
+pub ruleset ends-low = (a-low, b-low)
 
 -- ---- isolated_word
 

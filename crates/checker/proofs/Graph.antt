@@ -1,26 +1,25 @@
 -- The words gathered from a file's bytes are the neighbours and the isolated nodes of the set that it holds.
 use mathlib.Core.Path.{_≡_, refl, sym, ap, ap₂, _∙_}
-use mathlib.Core.Bool.{Bool, true, false, not, _&&_, _||_}
+use mathlib.Core.Bool.{Bool, true, false, _&&_, _||_}
 use mathlib.Core.List.{List}
-use Prim.Native.Nat.{ℕ, zero, suc, _+_, _^_, _≤_, _<_}
+use Prim.Native.Nat.{ℕ, zero, suc, _≤_, _<_}
 use native.Mathlib.Omega.{arith}
-use lib.Dec.{eqb, ltb, leb}
+use lib.Dec.{eqb, ltb}
 use lib.ListN.{length, getD, set, replicate, length-set, length-replicate}
-use lib.Seq.{getD-set-same, getD-set-other, set-out}
-use borrow.Author.Tests.{eqb-true, eqb-false, eq-eqb, ne-eqb, ltb-true, ltb-false, lt-ltb, le-ltb, le-leb}
-use Rattle.rules.specs.declared.Network.{Network}
-use Rattle.rules.specs.declared.Verdict.the-variants.{Accepted, Refused}
-use Rattle.rules.specs.Basics.{any, lowest, upTo}
+use lib.Seq.{getD-set-same, getD-set-other}
+use borrow.Author.Tests.{eqb-true, eqb-false, eq-eqb, lt-ltb, le-ltb, le-leb}
+use Rattle.rules.specs.declared.Verdict.the-variants.{Accepted}
+use Rattle.rules.specs.Basics.{any, lowest}
 use Rattle.rules.specs.Limits.{homeRecords}
 use Rattle.rules.specs.File.{Set, setOf, headerOf, endA, endB, homeTopology}
 use Rattle.rules.specs.Isolation.{joins, linkBetween, neighbours, home, isolated, isolatedWord, word}
 use Rattle.rules.specs.Judgement.{judge}
-use Rattle.rules.proofs.Choices.{and-of, and-left, and-right, or-left, or-right, or-cases, clash, false-of, same-test}
+use Rattle.rules.proofs.Choices.{clash, false-of, same-test}
 use Rattle.rules.proofs.Numbers.{any-at, any-of, any-ext, lowest-found, lowest-none}
 use Rattle.rules.proofs.Rows.{getD-upTo}
 use Rattle.rules.proofs.Removal.{homeless-at}
 use Rattle.rules.proofs.Held.{homes-all}
-use Rattle.rules.proofs.Records.{FileMeets, file-meets}
+use Rattle.rules.proofs.Records.{file-meets}
 use Rattle.words.specs.Word.{has, adding}
 use Rattle.words.proofs.Members.{has-none, has-adding, word-ext}
 use Rattle.checker.specs.Graph.{entered, linked, neighbourWords, homeIs, Ends}

@@ -1,13 +1,13 @@
 -- What the functions' proofs cite.
-use mathlib.Core.Path.{_≡_, refl, sym, ap, subst, _∙_}
+use mathlib.Core.Path.{_≡_, refl, sym, ap, _∙_}
 use mathlib.Core.Logic.{_⊎_, inl, inr}
 use mathlib.Core.Bool.{Bool, true, false, not, _&&_, _||_, true≢false}
 use mathlib.Core.List.{List}
-use Prim.Native.Nat.{ℕ, zero, suc, _+_, _-_, _^_, _≤_, _<_}
+use Prim.Native.Nat.{ℕ, _+_, _-_, _^_, _≤_, _<_}
 use native.Mathlib.Numerals.{add-one}
 use native.Mathlib.Omega.{arith}
 use lib.Count.{ones}
-use lib.Dec.{eqb, ltb, leb}
+use lib.Dec.{eqb, leb}
 use lib.ListN.{length, getD, set, List·getD-eq-default}
 use borrow.Author.Tests.{eqb-true, eq-eqb, ne-eqb, not-true}
 use Rattle.rules.specs.Basics.{need, all}
@@ -19,7 +19,7 @@ use Rattle.words.proofs.Members.{has-none, has-both, has-either, has-minus, has
 use Rattle.words.proofs.Tally.{ones-count, lowest-there}
 use Rattle.checker.specs.Graph.{entered}
 use Rattle.checker.specs.Topology.{backboneWord, normal, reachedWord, connectedBy, servedBy, allServed, numberBy}
-use Rattle.checker.proofs.Reached.{Reached, reached-one, reached-is}
+use Rattle.checker.proofs.Reached.{reached-one, reached-is}
 use Rattle.checker.proofs.Same.{both-low}
 
 pub past : (s : List ℕ) (i : ℕ) → length s ≤ i → 0 ≡ getD s i 0

@@ -1,21 +1,20 @@
 -- What is reached inside a part of the graph: by walks, by the rounds of the definition, and that both are one.
-use mathlib.Core.Path.{_≡_, refl, sym, ap, subst, _∙_}
+use mathlib.Core.Path.{_≡_, refl, sym, ap, _∙_}
 use mathlib.Core.Logic.{_⊎_, inl, inr}
-use mathlib.Core.Bool.{Bool, true, false, not, _&&_, _||_, true≢false, false≢true}
+use mathlib.Core.Bool.{Bool, true, false, not, _&&_, _||_, false≢true}
 use mathlib.Core.List.{List}
 use Prim.Native.Nat.{ℕ, zero, suc, _+_, _-_, _^_, _≤_, _<_}
 use native.Mathlib.Nat.{zero-add, suc-add}
 use native.Mathlib.Omega.{arith}
-use lib.Dec.{eqb, ltb}
+use lib.Dec.{ltb}
 use lib.ListN.{getD}
 use borrow.Author.Tests.{eqb-true, eq-eqb, ltb-true, lt-ltb, not-true}
 use Rattle.rules.specs.Basics.{any, count}
-use Rattle.rules.specs.Isolation.{word}
 use Rattle.rules.specs.Demands.{Walk}
 use Rattle.rules.proofs.Choices.{and-of, and-left, and-right, or-left, or-right, or-cases, clash, same-test}
 use Rattle.rules.proofs.Numbers.{any-at, any-of, bit, count-none, count-more, count-le, count-lt, count-all}
 use Rattle.words.specs.Word.{has, only}
-use Rattle.words.proofs.Members.{has-none, has-word, has-one, has-ext, has-bound, word-fits, only-fits}
+use Rattle.words.proofs.Members.{has-word, has-one, has-ext, has-bound, word-fits, only-fits}
 use Rattle.checker.specs.Topology.{normal, spreadWord, rounds, reachedWord}
 
 pub spread-fits : (nb : List ℕ) (bb w : ℕ) → spreadWord nb bb w < 2 ^ 32

@@ -3,24 +3,24 @@ use mathlib.Core.Path.{_≡_, refl, sym, ap, ap₂, _∙_}
 use mathlib.Core.Logic.{_⊎_, inl, inr}
 use mathlib.Core.Bool.{Bool, true, false, not, _&&_, _||_}
 use mathlib.Core.List.{List}
-use Prim.Native.Nat.{ℕ, zero, suc, _+_, _^_, _≤_, _<_}
+use Prim.Native.Nat.{ℕ, zero, suc, _^_, _≤_, _<_}
 use native.Mathlib.Omega.{arith}
 use lib.Bits.{and-le-r}
 use lib.Count.{ones}
 use lib.Dec.{eqb, ltb, leb}
 use lib.ListN.{getD}
-use borrow.Author.Tests.{eqb-true, eqb-false, eq-eqb, ne-eqb, ltb-true, ltb-false, lt-ltb, le-ltb, not-true}
-use Rattle.rules.specs.Basics.{need, all, any, count, lowest, upTo}
+use borrow.Author.Tests.{eqb-true, eq-eqb, ne-eqb, ltb-true, ltb-false, lt-ltb, not-true}
+use Rattle.rules.specs.Basics.{need, all, any, lowest}
 use Rattle.rules.specs.File.{Set}
 use Rattle.rules.specs.Isolation.{neighbours, isolated, isolatedWord, backbone, word, normalHop, spread, reached, connected, restrictedLinks, twoLinks, topologyNumber}
 use Rattle.rules.proofs.Choices.{and-of, and-left, and-right, or-left, or-right, or-cases, clash, false-of, same-test}
 use Rattle.rules.proofs.Numbers.{all-at, all-of, all-ext, any-at, any-of, lowest-found, lowest-before, lowest-one}
 use Rattle.rules.proofs.Rows.{getD-upTo}
-use Rattle.words.specs.Word.{has, both, minus, only, firsts, lowestIn}
-use Rattle.words.proofs.Members.{has-none, has-both, has-minus, has-first, has-one, has-ext, has-bound, has-word, word-fits, minus-fits, firsts-fits, word-ext}
-use Rattle.words.proofs.Tally.{ones-word, lowest-word, lowest-there}
-use Rattle.checker.specs.Topology.{backboneWord, normal, spreadWord, rounds, reachedWord, connectedBy, servedBy, allServed, numberBy}
-use Rattle.checker.proofs.Reached.{Reached, walk-in, walk-inside, spread-is, settled, reached-by, reached-is}
+use Rattle.words.specs.Word.{has, both, minus, firsts, lowestIn}
+use Rattle.words.proofs.Members.{has-none, has-both, has-minus, has-first, has-one, has-ext, has-word, word-fits, minus-fits, firsts-fits}
+use Rattle.words.proofs.Tally.{ones-word, lowest-word}
+use Rattle.checker.specs.Topology.{backboneWord, normal, rounds, reachedWord, connectedBy, servedBy, allServed, numberBy}
+use Rattle.checker.proofs.Reached.{Reached, walk-inside, spread-is, reached-by, reached-is}
 
 -- the words hold each node's neighbours
 pub record WordsOf (S : Set) (nb : List ℕ) : Type 0 where

@@ -1,5 +1,5 @@
 -- The two rules of a backup topology over words: each node's neighbours in `nb`, the isolated nodes in `iso`, the backbone in `bb`.
-use mathlib.Core.Bool.{Bool, true, false, not, _&&_, _||_}
+use mathlib.Core.Bool.{Bool, not, _&&_, _||_}
 use mathlib.Core.List.{List}
 use Prim.Native.Nat.{ℕ, zero, suc}
 use lib.Count.{ones}

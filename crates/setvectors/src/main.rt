@@ -46,12 +46,6 @@ fn build(name: &[u8], graph: &[u8], cap: u8, room: usize)
     requires { ⌜ room ≤ 128 ⌝ }
 {
     let mut file = space();
-    build_part(name, graph, cap, room, &mut file);
-}
-
-fn build_part(name: &[u8], graph: &[u8], cap: u8, room: usize, file: &mut [u8; 128])
-    requires { ⌜ room ≤ 128 ⌝ }
-{
     build_into(name, graph, cap, &mut file[..room]);
 }
 

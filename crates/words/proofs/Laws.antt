@@ -1,5 +1,5 @@
 -- What the functions' proofs cite.
-use mathlib.Core.Path.{_≡_, refl, sym, ap, _∙_}
+use mathlib.Core.Path.{_≡_, sym, ap, _∙_}
 use mathlib.Core.Bool.{Bool, true, false}
 use mir.Val.{Fits}
 use mir.Syntax.{w8}
@@ -10,7 +10,7 @@ use lib.Dec.{eqb}
 use lib.Pow.{pow-lt, ones-split, high, ones-lt}
 use lib.Bits.{bitAnd, bitOr}
 use lib.Count.{trailingZeros, trailing-le}
-use Rattle.words.specs.Word.{has, both, either, minus, only, adding, removing, firsts, put}
+use Rattle.words.specs.Word.{has, only, adding, removing, firsts, put}
 use Rattle.words.proofs.Members.{has-shift}
 
 pub has-at : (w v : ℕ) → eqb (w / 2 ^ v % 2) 1 ≡ has w v

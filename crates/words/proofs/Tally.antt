@@ -4,16 +4,16 @@ use mathlib.Core.Bool.{Bool, true, false, _&&_}
 use Prim.Native.Nat.{ℕ, zero, suc, _+_, _-_, _*_, _/_, _%_, _^_, _≤_, _<_}
 use native.Mathlib.Nat.{pow-suc, mod-lt}
 use native.Mathlib.Omega.{arith}
-use lib.Dec.{eqb, leb, ltb}
+use lib.Dec.{eqb, ltb}
 use lib.Arith.{lt-one}
 use lib.Count.{ones, onesIn, ones-step, trailingZeros, trailing-le, under}
 use borrow.Author.Tests.{ltb-true, ltb-false, lt-ltb}
 use Rattle.rules.specs.Basics.{any, count, lowest}
 use Rattle.rules.specs.Isolation.{word}
-use Rattle.rules.proofs.Choices.{and-of, and-left, false-of, clash}
+use Rattle.rules.proofs.Choices.{and-left, false-of, clash}
 use Rattle.rules.proofs.Numbers.{bit, count-none, count-more, count-ext, any-at, any-of, lowest-none, lowest-found, lowest-before, lowest-one}
 use Rattle.words.specs.Word.{has, lowestIn}
-use Rattle.words.proofs.Members.{has-none, has-ext, has-word, word-below, word-fits}
+use Rattle.words.proofs.Members.{has-none, has-ext, has-word, word-below}
 
 -- ---- how many
 

@@ -1,6 +1,6 @@
 -- A set of nodes as one word: node v is in it where its binary digit v is 1. Each operation of the code by name.
 use mathlib.Core.Bool.{Bool, true, false}
-use Prim.Native.Nat.{ℕ, zero, suc, _+_, _-_, _*_, _/_, _%_, _^_}
+use Prim.Native.Nat.{ℕ, zero, suc, _-_, _/_, _%_, _^_}
 use lib.Dec.{eqb}
 use lib.Bits.{bitAnd, bitOr}
 use lib.Count.{trailingZeros}

@@ -102,7 +102,7 @@ storing-none d base f n = record { low = omega arith; stored = refl; long = refl
 pub storing-done : (d e : List ℕ) (base : ℕ) (f : ℕ → List ℕ) (i n : ℕ) → Storing d e base f i n → n ≤ i → e ≡ put d base (flat f n)
 storing-done d e base f i n w h = let low = w .low in let same : i ≡ n = omega arith in w .stored ∙ ap (λ (x : ℕ). put d base (flat f x)) same
 
-storing-more : (d e e′ : List ℕ) (base : ℕ) (f : ℕ → List ℕ) (i n at c : ℕ) (r : List ℕ) → Storing d e base f i n → i < n → ((x : ℕ) → x < i → length (f x) ≡ c)
+pub storing-more : (d e e′ : List ℕ) (base : ℕ) (f : ℕ → List ℕ) (i n at c : ℕ) (r : List ℕ) → Storing d e base f i n → i < n → ((x : ℕ) → x < i → length (f x) ≡ c)
     → at ≡ base + i * c → r ≡ f i → e′ ≡ put e at r → Storing d e′ base f (i + 1) n
 unfolding flat
 storing-more d e e′ base f i n at c r w h fits p s q =

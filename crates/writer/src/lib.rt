@@ -4,7 +4,7 @@
 // compared. The lists are judged first and nothing is stored before they are accepted.
 mod list; // list.rt: the entries of the lists
 mod draft; // draft.rt: the judgement of the records
-mod store; // store.rt: the bytes of a set
+pub mod store; // store.rt: the bytes of a set
 
 use housefile::rule;
 use rules::LengthAnswer;

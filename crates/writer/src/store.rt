@@ -30,7 +30,7 @@ fn two(file: &mut [u8], at: usize, x: u8, y: u8)
 }
 
 // A mark and the byte after it.
-fn marked(file: &mut [u8], at: usize, x: u8, y: u8, z: u8)
+pub fn marked(file: &mut [u8], at: usize, x: u8, y: u8, z: u8)
     requires { ⌜ at < 4294967296 ⌝ }
     ensures { λ _. ⌜ now (file .exit) ≡ put (now (file .entry)) at (x ∷ y ∷ z ∷ []) ⌝ }
 {
@@ -39,7 +39,7 @@ fn marked(file: &mut [u8], at: usize, x: u8, y: u8, z: u8)
 }
 
 // A number as two bytes, the higher first.
-fn number(file: &mut [u8], at: usize, w: u16)
+pub fn number(file: &mut [u8], at: usize, w: u16)
     requires { ⌜ at < 4294967296 ⌝ }
     ensures { λ _. ⌜ now (file .exit) ≡ put (now (file .entry)) at (bytes2 w) ⌝ }
 {
@@ -48,7 +48,8 @@ fn number(file: &mut [u8], at: usize, w: u16)
 
 // ---- the header and the links
 
-fn header(file: &mut [u8], net: Network)
+// The network record.
+pub fn header(file: &mut [u8], net: Network)
     ensures { λ _. ⌜ now (file .exit) ≡ put (now (file .entry)) 0 (headerBytes net) ⌝ }
 {
     marked(file, 0, 0x4E, 0x57, net.n);
@@ -57,7 +58,8 @@ fn header(file: &mut [u8], net: Network)
     number(file, 6, net.wmax);
 }
 
-fn link(file: &mut [u8], at: usize, a: u8, b: u8, w: u16)
+// A link record with these fields, at a place.
+pub fn link(file: &mut [u8], at: usize, a: u8, b: u8, w: u16)
     requires { ⌜ at < 134217728 ⌝ }
     ensures { λ _. ⌜ now (file .exit) ≡ put (now (file .entry)) at (0x4C ∷ 0x4B ∷ a ∷ b ∷ bytes2 w) ⌝ }
 {
@@ -106,7 +108,8 @@ fn home(file: &mut [u8], at: usize, v: u8, topology: u8)
     byte(file, at + 3, topology);
 }
 
-fn homes(file: &mut [u8], net: Network, homes: &[u8], count: usize)
+// The first home records.
+pub fn homes(file: &mut [u8], net: Network, homes: &[u8], count: usize)
     requires { ⌜ count < 256 ⌝ }
     ensures { λ _. ⌜ now (file .exit) ≡ put (now (file .entry)) (homePlace net 0) (flat (homeBytes (homesOnly net (now (homes .entry)))) count) ⌝ }
 {

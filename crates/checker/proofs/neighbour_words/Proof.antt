@@ -1,5 +1,5 @@
 use Prim.Native.Nat.{_-_, _≤_}
-use Rattle.checker.proofs.Files.{a-low, b-low, linked-done, linked-more, linked-none}
+use Rattle.checker.proofs.Files.{ends-low, linked-done, linked-more, linked-none}
 use Rattle.checker.specs.Graph.{neighbourWords}
 use borrow.Author.Needs.{needs}
 use mathlib.Core.Path.{_≡_}
@@ -28,10 +28,10 @@ end-b-requires : tie.Need-end-b-requires Inv-loop μ-loop
 end-b-requires c κs = search needs
 
 enter-requires : tie.Need-enter-requires Inv-loop μ-loop
-enter-requires c κs = (search a-low, search b-low)
+enter-requires c κs = (search ends-low, search ends-low)
 
 enter-requires-2 : tie.Need-enter-requires-2 Inv-loop μ-loop
-enter-requires-2 c κs = (search b-low, search a-low)
+enter-requires-2 c κs = (search ends-low, search ends-low)
 
 add-l : tie.Need-add-l Inv-loop μ-loop
 add-l c = search needs

@@ -1,42 +1,53 @@
-use Prim.Native.Nat.{_-_, _≤_}
-use Rattle.builder.proofs.Stored.{each-done, each-none, links-more}
-use Rattle.builder.specs.Stores.{linkRecord, storedEach}
+use Prim.Native.Nat.{_-_}
+use Rattle.builder.proofs.Stored.{link-copied}
+use Rattle.builder.specs.Stores.{linkCopy}
 use Rattle.rules.specs.Limits.{linkPlace}
+use Rattle.writer.proofs.Stores.{Storing, storing-done, storing-none}
 use borrow.Author.Needs.{needs}
-use lib.ListN.{length}
-use mathlib.Core.Path.{_≡_}
 use Rattle.builder.proofs.store.put_links.Statement.{statement}
 use Rattle.builder.proofs.store.put_links.Tie as tie
 
 abbrev Inv-loop : tie.InvT-loop
-Inv-loop graph file₀ m l₀ file l = (l ≤ m) × (file ≡ storedEach file₀ linkPlace (linkRecord graph) l) × (length file ≡ length file₀)
+Inv-loop graph file₀ m x₀ file x = Storing file₀ file (linkPlace 0) (linkCopy graph) x m
 
 abbrev μ-loop : tie.MeasureT-loop
-μ-loop graph file₀ m l₀ file l = m - l
+μ-loop graph file₀ m x₀ file x = m - x
 
 loop-holds : tie.Need-loop-holds Inv-loop μ-loop
-loop-holds c = (search needs, search each-none, search needs)
+loop-holds c = search storing-none
 
-cast-put-link : tie.Need-cast-put-link Inv-loop μ-loop
-cast-put-link c = search needs
+cast-l : tie.Need-cast-l Inv-loop μ-loop
+cast-l c = search needs
 
-put-link-requires : tie.Need-put-link-requires Inv-loop μ-loop
-put-link-requires c κs = search needs
+end-a-requires : tie.Need-end-a-requires Inv-loop μ-loop
+end-a-requires c κs = search needs
 
-add-l : tie.Need-add-l Inv-loop μ-loop
-add-l c = search needs
+end-b-requires : tie.Need-end-b-requires Inv-loop μ-loop
+end-b-requires c κs = search needs
+
+link-place-requires : tie.Need-link-place-requires Inv-loop μ-loop
+link-place-requires c κs = search needs
+
+link-weight-requires : tie.Need-link-weight-requires Inv-loop μ-loop
+link-weight-requires c κs = search needs
+
+link-requires : tie.Need-link-requires Inv-loop μ-loop
+link-requires c κs = search needs
+
+add-x : tie.Need-add-x Inv-loop μ-loop
+add-x c = search needs
 
 loop-less : tie.Need-loop-less Inv-loop μ-loop
 loop-less c = search needs
 
 loop-again : tie.Need-loop-again Inv-loop μ-loop
-loop-again c = (search needs, search links-more, search needs)
+loop-again c = search link-copied
 
 same-length : tie.Need-same-length Inv-loop μ-loop
 same-length c = search needs
 
 returns : tie.Need-returns Inv-loop μ-loop
-returns c = search each-done
+returns c = search storing-done
 
 pub put-links-spec : {M : Type 1} → statement M
 put-links-spec =
@@ -45,9 +56,13 @@ put-links-spec =
     Inv-loop
     μ-loop
     loop-holds
-    cast-put-link
-    put-link-requires
-    add-l
+    cast-l
+    end-a-requires
+    end-b-requires
+    link-place-requires
+    link-weight-requires
+    link-requires
+    add-x
     loop-less
     loop-again
     same-length
