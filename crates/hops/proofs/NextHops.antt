@@ -1,18 +1,18 @@
 -- The next hops by tie words are the published ones, for the costs and distances of an accepted set.
-use Prim.Native.Nat.{ℕ, zero, suc, _+_, _-_, _*_, _≤_, _<_, min}
+use Prim.Native.Nat.{ℕ, zero, suc, _+_, _≤_, _<_}
 use native.Mathlib.Nat.{le-trans, min-le-left, min-le-right, min-eq-left, min-eq-right, eq-or-lt-of-le, le-of-suc-le-suc, le-of-lt, le-antisymm}
 use native.Mathlib.Omega.{arith}
-use mathlib.Core.Path.{_≡_, refl, sym, ap, _∙_}
+use mathlib.Core.Path.{_≡_, refl, sym, _∙_}
 use mathlib.Core.Bool.{Bool, true, false}
 use mathlib.Core.Logic.{_⊎_, inl, inr, ⊎-elim}
-use mathlib.Core.List.{List, []}
+use mathlib.Core.List.{List}
 use lib.Dec.{eqb, leb}
 use lib.ListN.{length, getD}
-use borrow.Author.Tests.{eqb-true, eqb-false, eq-eqb, ne-eqb, leb-true, leb-false}
+use borrow.Author.Tests.{eqb-true, eqb-false, eq-eqb, leb-true, leb-false}
 use Rattle.rules.specs.Basics.{if_then_else_, lowest, upTo, flat}
 use Rattle.rules.specs.File.{Set}
-use Rattle.rules.specs.Isolation.{linkBetween, hopWeight, usable}
-use Rattle.rules.specs.Distance.{far, distance, distances, nextHop, onLeastPath}
+use Rattle.rules.specs.Isolation.{linkBetween}
+use Rattle.rules.specs.Distance.{distance, distances, nextHop, onLeastPath}
 use Rattle.rules.specs.Demands.{AcceptedSet}
 use Rattle.rules.proofs.Choices.{if-yes, if-no}
 use Rattle.rules.proofs.Rows.{upTo-ext, flat-ext}

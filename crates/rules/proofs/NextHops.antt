@@ -106,8 +106,7 @@ module _ (S : Set) (A : AcceptedSet S) (u : ℕ) (lu : u < S .net .n) where
       let r = isRestricted (class S (home S u) (linkBetween S u w)) in
       let n = and-left (neighbours S u w) (r && not (eqb w v)) e in
       let b = and-right (neighbours S u w) (r && not (eqb w v)) e in
-      let c = and-left r (not (eqb w v)) b in
-      (
+      let c = and-left r (not (eqb w v)) b in (
         record {
           joined = n;
           node = neighbours-below S (A .rules) u w n .1;

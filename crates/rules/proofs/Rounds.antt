@@ -106,8 +106,8 @@ module _ (c : ℕ → ℕ → ℕ) (n none t : ℕ) where
             arith,
             ih w (nearer-before h u w (q .1) (q .2) f (q .3)),
             count-lt (λ x. ltb (to h x) (to h w)) (λ x. ltb (to (suc h) x) (to (suc h) u)) n w
-            (λ x lx e. lt-ltb (to (suc h) x) (to (suc h) u) (omega (arith, ltb-true (to h x) (to h w) e, best-falls h x, less)))
-            (q .1) (le-ltb (to h w) (to h w) (omega arith)) (lt-ltb (to (suc h) w) (to (suc h) u) (omega (arith, best-falls h w, less))),
+                (λ x lx e. lt-ltb (to (suc h) x) (to (suc h) u) (omega (arith, ltb-true (to h x) (to h w) e, best-falls h x, less)))
+                (q .1) (le-ltb (to h w) (to h w) (omega arith)) (lt-ltb (to (suc h) w) (to (suc h) u) (omega (arith, best-falls h w, less))),
           )
 
   -- a total that is not `none` is that of a way

@@ -1,26 +1,26 @@
 -- Laws of one topology's tables, as the functions use them.
-use Prim.Native.Nat.{ℕ, zero, suc, _+_, _-_, _*_, _≤_, _<_}
+use Prim.Native.Nat.{ℕ, suc, _*_, _≤_, _<_}
 use native.Mathlib.Nat.{mul-le-mul, le-trans, eq-or-lt-of-le, le-of-suc-le-suc}
 use native.Mathlib.Omega.{arith}
 use mathlib.Core.Path.{_≡_, refl, sym, ap, subst, _∙_}
-use mathlib.Core.Logic.{_⊎_, inl, inr, ⊎-elim}
-use mathlib.Core.List.{List, []}
+use mathlib.Core.Logic.{⊎-elim}
+use mathlib.Core.List.{List}
 use lib.ListN.{length, getD}
 use mir.Syntax.{w32}
 use mir.Val.{Fits}
 use Rattle.rules.specs.declared.Network.{Network}
-use Rattle.rules.specs.Basics.{need, upTo, flat}
+use Rattle.rules.specs.Basics.{need, upTo}
 use Rattle.rules.specs.Limits.{restrictedWeight, homeRecords}
 use Rattle.rules.specs.File.{Set}
 use Rattle.rules.specs.Isolation.{home}
 use Rattle.rules.specs.Demands.{AcceptedSet}
 use Rattle.rules.specs.Entries.{lists, setWith}
-use Rattle.routes.specs.Sweeps.{Net, rounds, start, Low}
-use Rattle.routes.specs.Lanes.{column, LowCols, Wired, netOf, Settled}
-use Rattle.routes.specs.Costs.{cost, rowOf, HoldsRow, costAt, Links, Distances}
+use Rattle.routes.specs.Sweeps.{start}
+use Rattle.routes.specs.Lanes.{LowCols, Wired, netOf, Settled}
+use Rattle.routes.specs.Costs.{cost, rowOf, costAt, Links, Distances}
 use Rattle.routes.proofs.Sweeps.{rounds-le, start-low}
 use Rattle.routes.proofs.Exact.{costs-wired, settled-distances}
-use Rattle.routes.proofs.Held.{holds-row, held-links, held-costs}
+use Rattle.routes.proofs.Held.{held-links, held-costs}
 use Rattle.hops.specs.Ties.{tieTable}
 use Rattle.hops.specs.Alternates.{Homed, RowsTo}
 use Rattle.hops.proofs.NextHops.{tie-table}
