@@ -162,8 +162,9 @@ pub first-is : (w : ℕ) → trailingZeros 32 w ≡ firstOf w
 unfolding firstOf
 first-is w = refl
 
-pub first-fits : (w : ℕ) → Fits w8 (trailingZeros 32 w)
-first-fits w = record { fits = omega (arith, trailing-le 32 w) }
+pub first-fits : (w z : ℕ) → z ≡ firstOf w → Fits w8 z
+unfolding firstOf
+first-fits w z e = record { fits = omega (arith, trailing-le 32 w) }
 
 pub hop-self : (w u t : ℕ) → u ≡ t → u ≡ hopOf w u t
 unfolding hopOf

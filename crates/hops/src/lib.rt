@@ -152,10 +152,16 @@ fn words(a: &[u8], b: &[u8], c: &[u32], d: &[[u32; 32]], w: &mut [[u32; 32]])
 }
 
 // The lowest node of a word that has one.
+fn lowest_bit(w: u32) -> u32
+    ensures { λ s. ⌜ s ≡ firstOf w ⌝ }
+{
+    u32::trailing_zeros(w)
+}
+
 fn first(w: u32) -> u8
     ensures { λ s. ⌜ s ≡ firstOf w ⌝ }
 {
-    u32::trailing_zeros(w) as u8
+    lowest_bit(w) as u8
 }
 
 fn hop(w: u32, u: u8, t: u8) -> u8
@@ -331,8 +337,8 @@ fn nearest(near: &[bool; 32], d: &[[u32; 32]], v: usize, best: u32) -> u32
     let mut w: usize = 0;
     while w < d.len() {
         let ok = stands_in(near, v, w);
-        let key = distance_at(d, w, v);
-        let bit = near_bit(ok, key, best, w);
+        let reach = distance_at(d, w, v);
+        let bit = near_bit(ok, reach, best, w);
         word = or_word(word, bit);
         w += 1;
     }

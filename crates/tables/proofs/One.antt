@@ -27,17 +27,13 @@ use Rattle.hops.proofs.NextHops.{tie-table}
 use Rattle.hops.proofs.Detours.{alternate-of}
 use Rattle.tables.specs.Stages.{hopTable, Ready, AlternatesBelow, Work, Added}
 
--- ---- `restricted_weight`
-module _ (net : Network) (few : net .m ≤ 128) (small : net .wmax < 65536) where
-  pub weight-fits : (m wmax : ℕ) → m ≡ net .m → wmax ≡ net .wmax → Fits w32 (2 * m * wmax)
-  weight-fits m wmax em ew =
-      let p : 2 * m ≤ 256 = omega arith in
-      let q : wmax ≤ 65535 = omega arith in
-      record { fits = omega (arith, mul-le-mul p q) }
+-- ---- `product`, `restricted_weight`
+pub product-fits : (x y : ℕ) → (x ≤ 256) × (y < 65536) → Fits w32 (x * y)
+product-fits x y h = let q : y ≤ 65536 = omega (arith, h .1) in record { fits = omega (arith, mul-le-mul (h .0) q) }
 
-pub weight-is : (net : Network) → 2 * net .m * net .wmax ≡ restrictedWeight net
+pub weight-is : (net : Network) (m wmax r : ℕ) → m ≡ net .m → wmax ≡ net .wmax → r ≡ 2 * m * wmax → r ≡ restrictedWeight net
 unfolding restrictedWeight
-weight-is net = refl
+weight-is net m wmax r em ew e = e ∙ rw (em, ew)
 
 module _ (net : Network) (a b weights homes rows : List ℕ) (A : AcceptedSet (setWith net (lists a b weights homes rows))) where
   abbrev S : Set

@@ -14,6 +14,13 @@ ghost use Rattle.rules.specs.Entries.{lists, setWith};
 ghost use Rattle.routes.specs.Costs.{cost};
 ghost use Rattle.tables.specs.Stages.{hopTable, entriesOf, Ready, AlternatesBelow, Work, Added, AddedAt, AllAdded, Roomy, entry};
 
+fn product(x: u32, y: u32) -> u32
+    requires { ⌜ (x ≤ 256) × (y < 65536) ⌝ }
+    ensures { λ r. ⌜ r ≡ x * y ⌝ }
+{
+    x * y
+}
+
 // 2 × m × wmax.
 fn restricted_weight(net: Network) -> u32
     requires { ⌜ net .m ≤ 128 ⌝ }
@@ -21,7 +28,7 @@ fn restricted_weight(net: Network) -> u32
 {
     let m = net.m as u32;
     let wmax = net.wmax as u32;
-    2 * m * wmax
+    product(2 * m, wmax)
 }
 
 // The cost of every link in topology i.

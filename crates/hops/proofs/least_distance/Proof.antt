@@ -2,7 +2,6 @@ use borrow.Author.Needs.{needs}
 use lib.ListN.{length}
 use Rattle.hops.specs.Alternates.{leastOf}
 use Rattle.hops.proofs.Neighbours.{least-done, least-more, least-none}
-use Rattle.rules.proofs.Rounds.{best}
 use mathlib.Core.Path.{_≡_}
 use Prim.Native.Nat.{_-_, _≤_}
 use Rattle.hops.proofs.least_distance.Statement.{statement}

@@ -1,9 +1,7 @@
 use Rattle.hops.proofs.Neighbours.{word-done, word-more, word-none}
-use Rattle.rules.specs.Isolation.{word}
 use borrow.Author.Needs.{needs}
 use Rattle.hops.specs.Alternates.{nearWord}
 use lib.ListN.{length}
-use Rattle.rules.proofs.Rounds.{best}
 use mathlib.Core.Path.{_≡_}
 use Prim.Native.Nat.{_-_, _≤_}
 use Rattle.hops.proofs.nearest.Statement.{statement}
