@@ -199,7 +199,7 @@ module _ (S : Set) (A : AcceptedSet S) (i : ℕ) (hi : i ≤ S .net .k) where
 
     pub settled-distances : (d : List (List ℕ)) → Settled G d (S .net .n) → Distances S i d
     settled-distances d Q =
-        record { is = λ t lt. Q .is t lt ∙ swept t lt; long = Q .long }
+        record { is = λ t lt. Q .is t (omega (arith, A .rules .limits .nodes .1)) ∙ swept t lt; long = Q .long }
 
 -- an entry of the matrix is a distance
 pub distance-entry : (S : Set) (i : ℕ) (d : List (List ℕ)) → Distances S i d → (u t : ℕ) → u < S .net .n → t < S .net .n → getD (column t d) u 0 ≡ distance S i u t

@@ -1,6 +1,6 @@
 -- Laws of rows by lanes and of matrices by columns, as the functions use them.
 use Prim.Native.Nat.{ℕ, zero, suc, _+_, _-_, _≤_, _<_, min, zero-le}
-use native.Mathlib.Nat.{le-trans, le-refl}
+use native.Mathlib.Nat.{le-trans, eq-or-lt-of-le, le-of-suc-le-suc, le-refl}
 use native.Mathlib.Numerals.{add-one}
 use native.Mathlib.Omega.{arith}
 use mathlib.Core.Path.{_≡_, refl, sym, ap, ap₂, subst, _∙_}
@@ -19,8 +19,8 @@ use mir.Val.{Fits, toZ}
 use mir.Facts.{toZ-pos}
 use Rattle.rules.specs.Distance.{far}
 use Rattle.routes.specs.Sweeps.{lower, both, sweep, rounds, start, Low}
-use Rattle.routes.specs.Lanes.{lane, lanes, RowBecame, RowLowered, LowRow, Fell, Joined, column, Each, Cols, LowCols, Spot, Wired, netOf, unitRow, Begun, Settled}
-use Rattle.routes.proofs.Sweeps.{same?, set-le, rounds-still, rounds-add, start-low}
+use Rattle.routes.specs.Lanes.{lane, lanes, RowBecame, LowRow, Fell, Joined, column, Each, Cols, LowCols, Spot, Wired, netOf, unitRow, Begun, Settled}
+use Rattle.routes.proofs.Sweeps.{same?, lower-le, sweep-le, rounds-le, rounds-still, rounds-add, start-low}
 
 -- ---- `join`
 or-zero : (a b : ℕ) → bitOr a b ≡ 0 → (a ≡ 0) × (b ≡ 0)
@@ -29,32 +29,30 @@ or-zero a b e = (omega (arith, or-add-and a b, and-le-l a b, and-le-r a b), omeg
 pub joined : (a b : ℕ) → Joined a b (bitOr a b)
 joined a b = record { first = λ e. or-zero a b e .0; second = λ e. or-zero a b e .1 }
 
--- ---- `lower_part`
-pub lanes-none : (c from : ℕ) (q p : List ℕ) → RowBecame p p (lanes c q from 0 p) 0
+-- ---- `lower_row`
+pub lanes-none : (c : ℕ) (q p : List ℕ) → RowBecame p p (lanes c q 0 p) 0
 unfolding lanes
-lanes-none c from q p = record { is = refl; still = λ e. refl }
+lanes-none c q p = record { is = refl; still = λ e. refl }
 
-pub lanes-more : (c from t i sum new less s k : ℕ) (q p e : List ℕ) → RowBecame p e (lanes c q from t p) s → i ≡ from + t → sum ≡ c + getD q i 0 → new ≡ min (getD e i 0) sum
-    → Fell (getD e i 0) sum less → Joined s less k → RowBecame p (set e i new) (lanes c q from (t + 1) p) k
+pub lanes-more : (c t sum new less s k : ℕ) (q p e : List ℕ) → RowBecame p e (lanes c q t p) s → sum ≡ c + getD q t 0 → new ≡ min (getD e t 0) sum → Fell (getD e t 0) sum less → Joined s less k → RowBecame p (set e t new) (lanes c q (t + 1) p) k
 unfolding lanes lane
-lanes-more c from t i sum new less s k q p e B ei es en F J =
+lanes-more c t sum new less s k q p e B es en F J =
     record {
-      is = rw (en, es, B .is, ei, add-one);
-      still = λ z. let w : new ≡ getD e i 0 = omega (arith, F .kept (J .second z)) in rw w (set-getD e i 0) ∙ B .still (J .first z);
+      is = rw (en, es, B .is, add-one);
+      still = λ z. let w : new ≡ getD e t 0 = omega (arith, F .kept (J .second z)) in rw w (set-getD e t 0) ∙ B .still (J .first z);
     }
 
-pub lanes-done : (c from t s : ℕ) (q p e : List ℕ) → RowBecame p e (lanes c q from t p) s → t ≤ 16 → 16 ≤ t → RowBecame p e (lanes c q from 16 p) s
-lanes-done c from t s q p e B h g = let w : t ≡ 16 = omega arith in subst (λ (k : ℕ). RowBecame p e (lanes c q from k p) s) w B
+pub lanes-done : (c t s : ℕ) (q p e : List ℕ) → RowBecame p e (lanes c q t p) s → t ≤ 32 → 32 ≤ t → RowBecame p e (lanes c q 32 p) s
+lanes-done c t s q p e B h g = let w : t ≡ 32 = omega arith in subst (λ (k : ℕ). RowBecame p e (lanes c q k p) s) w B
 
 pub sum-fits : (c t : ℕ) (q : List ℕ) → LowRow q → t < 32 → c ≤ far → Fits w32 (c + getD q t 0)
 sum-fits c t q L g h = record { fits = omega (arith, L .low t g) }
 
-module _ (c from t i s : ℕ) (q p e : List ℕ) (B : RowBecame p e (lanes c q from t p) s) (L : LowRow q) (ei : i ≡ from + t) (g : t < 16) (h : (c < far) × (from ≤ 16)) where
-  pub part-fits : Fits w32 (c + getD q i 0)
-  part-fits = record { fits = omega (arith, L .low i (omega (arith, h .1)), h .0) }
+pub sum-fits-lt : (c t : ℕ) (q : List ℕ) → LowRow q → t < 32 → c < far → Fits w32 (c + getD q t 0)
+sum-fits-lt c t q L g h = record { fits = omega (arith, L .low t g) }
 
-pub part-low : (c from t s sum : ℕ) (q p e : List ℕ) → RowBecame p e (lanes c q from t p) s → sum ≡ c + getD q (from + t) 0 → LowRow q → t < 16 → (c < far) × (from ≤ 16) → sum < 2147483648
-part-low c from t s sum q p e B es L g h = omega (arith, L .low (from + t) (omega (arith, h .1)), h .0)
+pub sum-low : (c t sum : ℕ) (q : List ℕ) → LowRow q → t < 32 → c < far → sum ≡ c + getD q t 0 → sum < 2147483648
+sum-low c t sum q L g h e = omega (arith, L .low t g)
 
 -- ---- `lesser`, `fell`
 signed-lt : (p q : ℕ) → p < 2147483648 → q < 2147483648 → ltZ (toZ w32 q) (toZ w32 p) ≡ ltb q p
@@ -98,62 +96,21 @@ lane-other : (c t u : ℕ) (q p : List ℕ) → (u ≡ t → ⊥) → getD (lane
 unfolding lane
 lane-other c t u q p ne = getD-set-other p t u (min (getD p t 0) (c + getD q t 0)) 0 ne
 
-lanes-past : (c from k u : ℕ) (q p : List ℕ) → from + k ≤ u → getD (lanes c q from k p) u 0 ≡ getD p u 0
+lanes-past : (c k u : ℕ) (q p : List ℕ) → k ≤ u → getD (lanes c q k p) u 0 ≡ getD p u 0
 unfolding lanes
-lanes-past c from zero u q p h = refl
-lanes-past c from (suc k) u q p h = lane-other c (from + k) u q (lanes c q from k p) (λ e. omega arith) ∙ lanes-past c from k u q p (omega arith)
+lanes-past c zero u q p h = refl
+lanes-past c (suc k) u q p h = lane-other c k u q (lanes c q k p) (λ e. omega arith) ∙ lanes-past c k u q p (omega arith)
 
-lanes-before : (c from k u : ℕ) (q p : List ℕ) → u < from → getD (lanes c q from k p) u 0 ≡ getD p u 0
+lanes-at : (c k t : ℕ) (q p : List ℕ) → t < k → getD (lanes c q k p) t 0 ≡ min (getD p t 0) (c + getD q t 0)
 unfolding lanes
-lanes-before c from zero u q p h = refl
-lanes-before c from (suc k) u q p h = lane-other c (from + k) u q (lanes c q from k p) (λ e. omega arith) ∙ lanes-before c from k u q p h
+lanes-at c zero t q p h = absurd (omega arith)
+lanes-at c (suc k) t q p h =
+    ⊎-elim (λ (e : t ≡ k). rw e (lane-here c k q (lanes c q k p) ∙ rw (lanes-past c k k q p (le-refl k))))
+    (λ (g : t < k). lane-other c k t q (lanes c q k p) (λ e. omega arith) ∙ lanes-at c k t q p g)
+    (eq-or-lt-of-le (le-of-suc-le-suc h))
 
-lanes-at : (c from k t : ℕ) (q p : List ℕ) → from ≤ t → t < from + k → getD (lanes c q from k p) t 0 ≡ min (getD p t 0) (c + getD q t 0)
-unfolding lanes
-lanes-at c from zero t q p g h = absurd (omega arith)
-lanes-at c from (suc k) t q p g h =
-    ⊎-elim (λ (e : t ≡ from + k). rw e (lane-here c (from + k) q (lanes c q from k p) ∙ rw (lanes-past c from k (from + k) q p (le-refl (from + k)))))
-    (λ (ne : t ≡ from + k → ⊥). lane-other c (from + k) t q (lanes c q from k p) ne ∙ lanes-at c from k t q p g (omega arith))
-    (same? t (from + k))
-
-pub old-low : (c from t i s : ℕ) (q p e : List ℕ) → RowBecame p e (lanes c q from t p) s → LowRow p → i ≡ from + t → t < 16 → (c < far) × (from ≤ 16) → getD e i 0 < 2147483648
-old-low c from t i s q p e B L ei g h = rw (B .is, lanes-past c from t i q p (omega arith)) (omega (arith, L .low i (omega (arith, h .1))))
-
--- ---- `lower_row`
-lanes-fall : (c from k t : ℕ) (q p : List ℕ) → getD (lanes c q from k p) t 0 ≤ getD p t 0
-lanes-fall c from k t q p =
-    ⊎-elim (λ (h : t < from). rw (lanes-before c from k t q p h) (le-refl (getD p t 0)))
-    (λ (h : from ≤ t).
-    ⊎-elim (λ (g : t < from + k). rw (lanes-at c from k t q p h g) (omega arith)) (λ (g : from + k ≤ t). rw (lanes-past c from k t q p g) (le-refl (getD p t 0))) (in-or-out t (from + k)))
-    (in-or-out t from)
-
-pub low-part : (c from s : ℕ) (q p e : List ℕ) → LowRow p → RowBecame p e (lanes c q from 16 p) s → LowRow e
-low-part c from s q p e L B = record { low = λ t h. rw (B .is) (le-trans (lanes-fall c from 16 t q p) (L .low t h)) }
-
-pub half-lowered : (c n s : ℕ) (q p e : List ℕ) → RowBecame p e (lanes c q 0 16 p) s → n ≤ 16 → RowLowered c q n p e s
-half-lowered c n s q p e B h =
-    record {
-      is = λ t g. rw (B .is) (lanes-at c 0 16 t q p zero-le (omega arith));
-      falls = λ t. rw (B .is) (lanes-fall c 0 16 t q p);
-      still = B .still;
-    }
-
-pub row-lowered : (c n s r k : ℕ) (q p e f : List ℕ) → RowBecame p e (lanes c q 0 16 p) s → RowBecame e f (lanes c q 16 16 e) r → Joined s r k → (c < far) × (n ≤ 32) → RowLowered c q n p f k
-row-lowered c n s r k q p e f B C J h =
-    record {
-      is = λ t g.
-          ⊎-elim
-          (λ (l : t < 16). ap (λ (x : List ℕ). getD x t 0) (C .is) ∙ lanes-before c 16 16 t q e l ∙ rw (B .is) (lanes-at c 0 16 t q p zero-le (omega arith)))
-          (λ (l : 16 ≤ t).
-          let same : getD e t 0 ≡ getD p t 0 = rw (B .is) (lanes-past c 0 16 t q p (omega arith)) in
-          ap (λ (x : List ℕ). getD x t 0) (C .is) ∙ lanes-at c 16 16 t q e l (omega (arith, h .1)) ∙ rw same)
-          (in-or-out t 16);
-      falls = λ t.
-          let one : getD f t 0 ≤ getD e t 0 = rw (C .is) (lanes-fall c 16 16 t q e) in
-          let two : getD e t 0 ≤ getD p t 0 = rw (B .is) (lanes-fall c 0 16 t q p) in
-          le-trans one two;
-      still = λ z. C .still (J .second z) ∙ B .still (J .first z);
-    }
+pub old-low : (c t s : ℕ) (q p e : List ℕ) → RowBecame p e (lanes c q t p) s → LowRow p → t < 32 → getD e t 0 < 2147483648
+old-low c t s q p e B L h = rw (B .is, lanes-past c t t q p (le-refl t)) (omega (arith, L .low t h))
 
 map-set : (f : List ℕ → ℕ) (d : List (List ℕ)) (x : ℕ) (r : List ℕ) → map f (set d x r) ≡ set (map f d) x (f r)
 map-set f [] x r = refl
@@ -176,14 +133,13 @@ column-set t x d r = map-set (λ (s : List ℕ). getD s t 0) d x r
 pub low-row : (d : List (List ℕ)) (y : ℕ) → LowCols d → LowRow (getD d y [])
 low-row d y L = record { low = λ t h. rw (← column-at t y d) (L .low t h .low y) }
 
-pub relaxed : (x y c s : ℕ) (d : List (List ℕ)) (p : List ℕ) → RowLowered c (getD d y []) (length d) (getD d x []) p s → Cols d (set d x p) (lower x y c) s
+pub relaxed : (x y c s : ℕ) (d : List (List ℕ)) (p : List ℕ) → RowBecame (getD d x []) p (lanes c (getD d y []) 32 (getD d x [])) s → Cols d (set d x p) (lower x y c) s
 unfolding lower
 relaxed x y c s d p B =
     record {
       each =
           record {
-            is = λ t h. column-set t x d p ∙ ap (set (column t d) x) (B .is t h ∙ rw (column-at t x d, column-at t y d));
-            falls = λ t u. rw (column-set t x d p) (set-le (column t d) x (getD p t 0) u (rw (column-at t x d) (B .falls t)));
+            is = λ t h. column-set t x d p ∙ ap (set (column t d) x) (ap (λ (r : List ℕ). getD r t 0) (B .is) ∙ lanes-at c 32 t (getD d y []) (getD d x []) h ∙ rw (column-at t x d, column-at t y d));
             long = length-set d x p;
           };
       still = λ e. ap (set d x) (B .still e) ∙ set-getD d x [];
@@ -192,16 +148,16 @@ relaxed x y c s d p B =
 -- ---- `relax_link`
 module _ (a b c : List ℕ) (l x y k : ℕ) (d : List (List ℕ)) (F : Wired a b c (length d)) (h : l < length a) (i j : ℕ) (ei : i ≡ getD a l 0) (ex : x ≡ i) (ej : j ≡ getD b l 0) (ey : y ≡ j) (ek : k ≡ getD c l 0) (near : k < far) where
   pub spot : Spot d x y k
-  spot = record { x-in = omega (arith, F .a-in l h); y-in = omega (arith, F .b-in l h); c-low = near; few = F .few }
+  spot = record { x-in = omega (arith, F .a-in l h); y-in = omega (arith, F .b-in l h); c-low = near }
 
   pub spot-2 : (e : List (List ℕ)) (s : ℕ) → Cols d e (lower x y k) s → Spot e y x k
-  spot-2 e s B = record { x-in = omega (arith, spot .y-in, B .each .long); y-in = omega (arith, spot .x-in, B .each .long); c-low = spot .c-low; few = rw (B .each .long) (spot .few) }
+  spot-2 e s B = record { x-in = omega (arith, spot .y-in, B .each .long); y-in = omega (arith, spot .x-in, B .each .long); c-low = spot .c-low }
 
   pub linked : (e f : List (List ℕ)) (p q s : ℕ) → Cols d e (lower x y k) p → Cols e f (lower y x k) q → Joined p q s → Cols d f (both (netOf a b c) l) s
   unfolding both
   linked e f p q s B C J =
       record {
-        each = record { is = λ t g. C .each .is t (rw (B .each .long) g) ∙ rw (B .each .is t g, ex, ei, ey, ej, ek); falls = λ t u. le-trans (C .each .falls t u) (B .each .falls t u); long = C .each .long ∙ B .each .long };
+        each = record { is = λ t g. C .each .is t g ∙ rw (B .each .is t g, ex, ei, ey, ej, ek); long = C .each .long ∙ B .each .long };
         still = λ z. C .still (J .second z) ∙ B .still (J .first z);
       }
 
@@ -209,17 +165,17 @@ lower-far : (x y k : ℕ) (D : List ℕ) → Low D → far ≤ k → lower x y k
 unfolding lower
 lower-far x y k D L h = let w : min (getD D x 0) (k + getD D y 0) ≡ getD D x 0 = omega (arith, L .low x) in rw w (set-getD D x 0)
 
-pub link-far : (a b c : List ℕ) (l k : ℕ) (d : List (List ℕ)) → Wired a b c (length d) → LowCols d → k ≡ getD c l 0 → far ≤ k → Cols d d (both (netOf a b c) l) 0
+pub link-far : (a b c : List ℕ) (l k : ℕ) (d : List (List ℕ)) → LowCols d → k ≡ getD c l 0 → far ≤ k → Cols d d (both (netOf a b c) l) 0
 unfolding both
-link-far a b c l k d W L ek h =
+link-far a b c l k d L ek h =
     let g : far ≤ getD c l 0 = omega arith in
     record {
-      each = record { is = λ t f′. let f : t < 32 = omega (arith, W .few) in let D = column t d in let one = lower-far (getD a l 0) (getD b l 0) (getD c l 0) D (L .low t f) g in sym (ap (lower (getD b l 0) (getD a l 0) (getD c l 0)) one ∙ lower-far (getD b l 0) (getD a l 0) (getD c l 0) D (L .low t f) g); falls = λ t u. le-refl (getD (column t d) u 0); long = refl };
+      each = record { is = λ t f. let D = column t d in let one = lower-far (getD a l 0) (getD b l 0) (getD c l 0) D (L .low t f) g in sym (ap (lower (getD b l 0) (getD a l 0) (getD c l 0)) one ∙ lower-far (getD b l 0) (getD a l 0) (getD c l 0) D (L .low t f) g); long = refl };
       still = λ z. refl;
     }
 
 pub low-after : (x y k s : ℕ) (d e : List (List ℕ)) → LowCols d → Cols d e (lower x y k) s → LowCols e
-low-after x y k s d e L B = record { low = λ t h. record { low = λ u. le-trans (B .each .falls t u) (L .low t h .low u) } }
+low-after x y k s d e L B = record { low = λ t h. record { low = λ u. rw (B .each .is t h) (le-trans (lower-le x y k (column t d) u) (L .low t h .low u)) } }
 
 -- ---- `sweep_links`
 module _ (a b c : List ℕ) (l : ℕ) (d e : List (List ℕ)) (p : ℕ) (B : Cols d e (sweep (netOf a b c) l) p) where
@@ -227,13 +183,13 @@ module _ (a b c : List ℕ) (l : ℕ) (d e : List (List ℕ)) (p : ℕ) (B : Col
   wired-on F = rw (B .each .long) F
 
   pub low-on : LowCols d → LowCols e
-  low-on L = record { low = λ t h. record { low = λ u. le-trans (B .each .falls t u) (L .low t h .low u) } }
+  low-on L = record { low = λ t h. record { low = λ u. rw (B .each .is t h) (le-trans (sweep-le (netOf a b c) l (column t d) u) (L .low t h .low u)) } }
 
   pub swept-more : (f : List (List ℕ)) (q s : ℕ) → Cols e f (both (netOf a b c) l) q → Joined p q s → Cols d f (sweep (netOf a b c) (l + 1)) s
   unfolding sweep
   swept-more f q s C J =
       record {
-        each = record { is = λ t h. C .each .is t (rw (B .each .long) h) ∙ rw (B .each .is t h, add-one); falls = λ t u. le-trans (C .each .falls t u) (B .each .falls t u); long = C .each .long ∙ B .each .long };
+        each = record { is = λ t h. C .each .is t h ∙ rw (B .each .is t h, add-one); long = C .each .long ∙ B .each .long };
         still = λ z. C .still (J .second z) ∙ B .still (J .first z);
       }
 
@@ -242,7 +198,7 @@ module _ (a b c : List ℕ) (l : ℕ) (d e : List (List ℕ)) (p : ℕ) (B : Col
 
 pub swept-none : (a b c : List ℕ) (d : List (List ℕ)) → Cols d d (sweep (netOf a b c) 0) 0
 unfolding sweep
-swept-none a b c d = record { each = record { is = λ t h. refl; falls = λ t u. le-refl (getD (column t d) u 0); long = refl }; still = λ z. refl }
+swept-none a b c d = record { each = record { is = λ t h. refl; long = refl }; still = λ z. refl }
 
 -- ---- `settle`
 module _ (a b c : List ℕ) (k : ℕ) (d e : List (List ℕ)) (B : Each d e (rounds (netOf a b c) k)) where
@@ -250,11 +206,11 @@ module _ (a b c : List ℕ) (k : ℕ) (d e : List (List ℕ)) (B : Each d e (rou
   wired-in F = rw (B .long) F
 
   pub low-in : LowCols d → LowCols e
-  low-in L = record { low = λ t h. record { low = λ u. le-trans (B .falls t u) (L .low t h .low u) } }
+  low-in L = record { low = λ t h. record { low = λ u. rw (B .is t h) (le-trans (rounds-le (netOf a b c) k (column t d) u) (L .low t h .low u)) } }
 
   pub round-more : (f : List (List ℕ)) (s : ℕ) → Cols e f (sweep (netOf a b c) (length a)) s → Each d f (rounds (netOf a b c) (k + 1))
   unfolding rounds
-  round-more f s C = record { is = λ t h. C .each .is t (rw (B .long) h) ∙ rw (B .is t h, add-one); falls = λ t u. le-trans (C .each .falls t u) (B .falls t u); long = C .each .long ∙ B .long }
+  round-more f s C = record { is = λ t h. C .each .is t h ∙ rw (B .is t h, add-one); long = C .each .long ∙ B .long }
 
   pub round-done : length e ≤ k → k ≤ length d → Each d e (rounds (netOf a b c) (length d))
   round-done h g = let q : k ≡ length d = omega (arith, B .long) in subst (λ (j : ℕ). Each d e (rounds (netOf a b c) j)) q B
@@ -266,15 +222,14 @@ module _ (a b c : List ℕ) (k : ℕ) (d e : List (List ℕ)) (B : Each d e (rou
       let w : length d ≡ k + (length d - k) = omega arith in
       record {
         is = λ t g.
-            let fix : sweep G (length a) (column t e) ≡ column t e = sym (C .each .is t (rw (B .long) g)) ∙ ap (column t) fe in
+            let fix : sweep G (length a) (column t e) ≡ column t e = sym (C .each .is t g) ∙ ap (column t) fe in
             ap (column t) fe ∙ sym (rounds-still G (length d - k) (column t e) fix) ∙ ap (rounds G (length d - k)) (B .is t g) ∙ sym (rounds-add G (length d - k) k (column t d)) ∙ ap (λ (j : ℕ). rounds G j (column t d)) (sym w);
-        falls = λ t u. le-trans (C .each .falls t u) (B .falls t u);
         long = C .each .long ∙ B .long;
       }
 
 pub round-none : (a b c : List ℕ) (d : List (List ℕ)) → Each d d (rounds (netOf a b c) 0)
 unfolding rounds
-round-none a b c d = record { is = λ t h. refl; falls = λ t u. le-refl (getD (column t d) u 0); long = refl }
+round-none a b c d = record { is = λ t h. refl; long = refl }
 
 -- ---- `unit`, `begin`
 pub unit-is : (u : ℕ) → set (replicate 32 far) u 0 ≡ unitRow u
@@ -314,10 +269,5 @@ begun-fast a b c e n B F = rw (B .long) F
 pub wired-few : (a b c : List ℕ) (n : ℕ) → Wired a b c n → n ≤ 32
 wired-few a b c n F = F .few
 
-pub settled : (a b c : List ℕ) (d e : List (List ℕ)) (n : ℕ) → Wired a b c n → Begun d n → Each d e (rounds (netOf a b c) (length d)) → Settled (netOf a b c) e n
-settled a b c d e n F B R =
-    record {
-      is = λ t h. R .is t (rw (B .long) h) ∙ rw (B .is t (omega (arith, F .few)), B .long);
-      low = record { low = λ t h. record { low = λ u. le-trans (R .falls t u) (begun-low d n B .low t h .low u) } };
-      long = R .long ∙ B .long;
-    }
+pub settled : (a b c : List ℕ) (d e : List (List ℕ)) (n : ℕ) → Begun d n → Each d e (rounds (netOf a b c) (length d)) → Settled (netOf a b c) e n
+settled a b c d e n B R = record { is = λ t h. R .is t h ∙ rw (B .is t h, B .long); long = R .long ∙ B .long }

@@ -23,7 +23,7 @@ same? m n = go (eqb m n) refl
 
 -- ---- one lowering
 
-pub set-le : (d : List ℕ) (i v u : ℕ) → v ≤ getD d i 0 → getD (set d i v) u 0 ≤ getD d u 0
+set-le : (d : List ℕ) (i v u : ℕ) → v ≤ getD d i 0 → getD (set d i v) u 0 ≤ getD d u 0
 set-le [] i v u h = zero-le
 set-le (x ∷ d) zero v zero h = h
 set-le (x ∷ d) zero v (suc u) h = le-refl (getD d u 0)

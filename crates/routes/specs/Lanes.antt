@@ -12,20 +12,14 @@ use Rattle.routes.specs.Sweeps.{Net, rounds, start, Low}
 unfoldable pub lane : ℕ → List ℕ → ℕ → List ℕ → List ℕ
 lane c q t p = set p t (min (getD p t 0) (c + getD q t 0))
 
--- k lanes from `from` on
-unfoldable pub lanes : ℕ → List ℕ → ℕ → ℕ → List ℕ → List ℕ
-lanes c q from zero p = p
-lanes c q from (suc k) p = lane c q (from + k) (lanes c q from k p)
+-- the lanes below k
+unfoldable pub lanes : ℕ → List ℕ → ℕ → List ℕ → List ℕ
+lanes c q zero p = p
+lanes c q (suc k) p = lane c q k (lanes c q k p)
 
 -- p became e; where s is 0 nothing changed
 pub record RowBecame (p e want : List ℕ) (s : ℕ) : Type 0 where
   pub is : e ≡ want
-  pub still : s ≡ 0 → e ≡ p
-
--- p became e: the lanes below n were lowered to c + those of q, and no lane rose; where s is 0 nothing changed
-pub record RowLowered (c : ℕ) (q : List ℕ) (n : ℕ) (p e : List ℕ) (s : ℕ) : Type 0 where
-  pub is : (t : ℕ) → t < n → getD e t 0 ≡ min (getD p t 0) (c + getD q t 0)
-  pub falls : (t : ℕ) → getD e t 0 ≤ getD p t 0
   pub still : s ≡ 0 → e ≡ p
 
 -- a row whose lanes are at most far
@@ -46,10 +40,9 @@ pub record Joined (p q s : ℕ) : Type 0 where
 unfoldable pub column : ℕ → List (List ℕ) → List ℕ
 column t d = map (λ (r : List ℕ). getD r t 0) d
 
--- each column of e that is a node's is F of that of d, and no entry rose
+-- each column of e is F of that of d
 pub record Each (d e : List (List ℕ)) (F : List ℕ → List ℕ) : Type 0 where
-  pub is : (t : ℕ) → t < length d → column t e ≡ F (column t d)
-  pub falls : (t u : ℕ) → getD (column t e) u 0 ≤ getD (column t d) u 0
+  pub is : (t : ℕ) → t < 32 → column t e ≡ F (column t d)
   pub long : length e ≡ length d
 
 -- the same, and where s is 0 nothing changed
@@ -65,7 +58,6 @@ pub record Spot (d : List (List ℕ)) (x y c : ℕ) : Type 0 where
   pub x-in : x < length d
   pub y-in : y < length d
   pub c-low : c < far
-  pub few : length d ≤ 32
 
 -- links with their costs, on n nodes
 pub record Wired (a b c : List ℕ) (n : ℕ) : Type 0 where
@@ -90,6 +82,5 @@ pub record Begun (e : List (List ℕ)) (n : ℕ) : Type 0 where
 
 -- each column as n rounds leave it
 pub record Settled (G : Net) (e : List (List ℕ)) (n : ℕ) : Type 0 where
-  pub is : (t : ℕ) → t < n → column t e ≡ rounds G n (start n t)
-  pub low : LowCols e
+  pub is : (t : ℕ) → t < 32 → column t e ≡ rounds G n (start n t)
   pub long : length e ≡ n

@@ -9,7 +9,7 @@ ghost use Rattle.rules.specs.Basics.{upTo};
 ghost use Rattle.rules.specs.Limits.{restrictedWeight};
 ghost use Rattle.rules.specs.Distance.{far};
 ghost use Rattle.routes.specs.Sweeps.{lower, both, sweep, rounds};
-ghost use Rattle.routes.specs.Lanes.{lanes, RowBecame, RowLowered, LowRow, Fell, Joined, Each, Cols, LowCols, Spot, Wired, netOf, unitRow, Begun, Settled};
+ghost use Rattle.routes.specs.Lanes.{lanes, RowBecame, LowRow, Fell, Joined, Each, Cols, LowCols, Spot, Wired, netOf, unitRow, Begun, Settled};
 ghost use Rattle.routes.specs.Costs.{rowOf, HoldsRow, costOf, costAt, Links};
 
 // What stands for "no path", and for the cost of a link that is never used.
@@ -134,41 +134,25 @@ fn join(p: u32, q: u32) -> u32
     p | q
 }
 
-// Sixteen lanes of row p from `from` on, lowered to c + those of row q. 0 where nothing changed.
-fn lower_part(p: &mut [u32; 32], q: &[u32; 32], c: u32, from: usize) -> u32
+// Row p lowered to c + row q, lane by lane. 0 where nothing changed.
+fn lower_row(p: &mut [u32; 32], q: &[u32; 32], c: u32) -> u32
     requires { ⌜ LowRow (now p) ⌝ }
     requires { ⌜ LowRow (now q) ⌝ }
-    requires { ⌜ (c < far) × (from ≤ 16) ⌝ }
-    ensures { λ s. ⌜ RowBecame (now (p .entry)) (now (p .exit)) (lanes c (now (q .entry)) from 16 (now (p .entry))) s ⌝ }
+    requires { ⌜ c < far ⌝ }
+    ensures { λ s. ⌜ RowBecame (now (p .entry)) (now (p .exit)) (lanes c (now (q .entry)) 32 (now (p .entry))) s ⌝ }
 {
     let mut changed: u32 = 0;
     let mut t = 0;
-    while t < 16 {
-        let at = from + t;
-        let old = p[at];
-        let sum = c + q[at];
+    while t < 32 {
+        let old = p[t];
+        let sum = c + q[t];
         let new = lesser(old, sum);
         let less = fell(old, sum);
         changed = join(changed, less);
-        p[at] = new;
+        p[t] = new;
         t += 1;
     }
     changed
-}
-
-// The same for the lanes of n destinations: half a row is enough for up to 16.
-fn lower_row(p: &mut [u32; 32], q: &[u32; 32], c: u32, n: usize) -> u32
-    requires { ⌜ LowRow (now p) ⌝ }
-    requires { ⌜ LowRow (now q) ⌝ }
-    requires { ⌜ (c < far) × (n ≤ 32) ⌝ }
-    ensures { λ s. ⌜ RowLowered c (now (q .entry)) n (now (p .entry)) (now (p .exit)) s ⌝ }
-{
-    let s = lower_part(p, q, c, 0);
-    if n <= 16 {
-        return s;
-    }
-    let r = lower_part(p, q, c, 16);
-    join(s, r)
 }
 
 // Row x lowered to c + row y.
@@ -177,10 +161,9 @@ fn relax(d: &mut [[u32; 32]], x: usize, y: usize, c: u32) -> u32
     requires { ⌜ LowCols (now d) ⌝ }
     ensures { λ s. ⌜ Cols (now (d .entry)) (now (d .exit)) (lower x y c) s ⌝ }
 {
-    let n = d.len();
     let mut p = d[x];
     let q = d[y];
-    let s = lower_row(&mut p, &q, c, n);
+    let s = lower_row(&mut p, &q, c);
     d[x] = p;
     s
 }

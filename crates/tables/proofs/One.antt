@@ -67,7 +67,7 @@ module _ (net : Network) (a b weights homes rows : List ℕ) (A : AcceptedSet (s
         record {
           costs = is;
           distances = settled-distances S A i hi c is e R;
-          low = R .low;
+          low = record { low = λ t h. record { low = λ u. rw (R .is t h) (le-trans (rounds-le (netOf a b c) (net .n) (start (net .n) t) u) (start-low (start (net .n) t) (net .n) t refl .low u)) } };
         }
 
   -- ---- `topology`

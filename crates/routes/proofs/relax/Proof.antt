@@ -16,10 +16,10 @@ slice-copy-out-q : tie.Need-slice-copy-out-q
 slice-copy-out-q c = search needs
 
 lower-row-requires : tie.Need-lower-row-requires
-lower-row-requires c κs = (search low-row, (search low-row, (search needs, search needs)))
+lower-row-requires c κs = (search low-row, (search low-row, search needs))
 
-mul-t9 : tie.Need-mul-t9
-mul-t9 c = search needs
+mul-t8 : tie.Need-mul-t8
+mul-t8 c = search needs
 
 slice-set-from-d : tie.Need-slice-set-from-d
 slice-set-from-d c = search needs
@@ -39,7 +39,7 @@ relax-spec =
     mul-q
     slice-copy-out-q
     lower-row-requires
-    mul-t9
+    mul-t8
     slice-set-from-d
     same-length
     returns)
