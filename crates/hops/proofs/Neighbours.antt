@@ -87,8 +87,8 @@ another near v w ne = rw (ne-eqb w v ne) (go (getD near w false))
     go true = refl
     go false = refl
 
-pub entry-at : (d : List (List ℕ)) (w v : ℕ) → getD (getD d w []) v 0 ≡ getD (column v d) w 0
-entry-at d w v = sym (column-at v w d)
+pub entry-at : (d : List (List ℕ)) (w v s : ℕ) → s ≡ getD (getD d w []) v 0 → s ≡ getD (column v d) w 0
+entry-at d w v s e = e ∙ sym (column-at v w d)
 
 pub lesser-new : (ok : Bool) (key best : ℕ) → ok ≡ true → key < best → key ≡ lesserOf ok key best
 unfolding lesserOf

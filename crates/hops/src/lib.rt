@@ -281,12 +281,18 @@ fn stands_in(near: &[bool; 32], v: usize, w: usize) -> bool
     near[w]
 }
 
+fn lane(r: &[u32; 32], v: usize) -> u32
+    requires { ⌜ v < 32 ⌝ }
+    ensures { λ s. ⌜ s ≡ getD (now (r .entry)) v 0 ⌝ }
+{
+    r[v]
+}
+
 fn distance_at(d: &[[u32; 32]], w: usize, v: usize) -> u32
     requires { ⌜ (w < length (now d)) × (v < 32) ⌝ }
     ensures { λ s. ⌜ s ≡ getD (column v (now (d .entry))) w 0 ⌝ }
 {
-    let r = d[w];
-    r[v]
+    lane(&d[w], v)
 }
 
 fn lesser_of(ok: bool, key: u32, best: u32) -> u32
