@@ -1,11 +1,9 @@
-// The next hops of one topology and the alternates of the nodes whose home it is, by its costs and distances. Next hops are found by
-// words: for each node and destination the neighbours that tie, as bits, of which the lowest is taken. It promises what specs/ says of
-// any links and distances; that this is what 01 asks, for the distances of an accepted set, is shown in proofs/.
+// The next hops of one topology and the alternates of the nodes whose home it is. It promises what specs/ says, of any links and distances;
+// that this is what 01 asks of an accepted set is shown in proofs/. The neighbours that tie are the bits of a word, of which the lowest is taken.
 ghost use mathlib.Core.Path.{_≡_};
-ghost use mathlib.Core.Bool.{Bool, true, false, _||_};
+ghost use mathlib.Core.Bool.{false, _||_};
 ghost use lib.Dec.{eqb};
 ghost use Prim.Native.Nat.{ℕ, _+_, _*_, _^_, _≤_, _<_, min};
-ghost use mathlib.Core.List.{List, []};
 ghost use lib.ListN.{length, getD, set, replicate};
 ghost use Rattle.rules.specs.Basics.{upTo, flat};
 ghost use Rattle.rules.specs.Distance.{far};
@@ -18,20 +16,6 @@ const FAR: u32 = 1073741824;
 
 // No alternate.
 const NONE: u8 = 255;
-
-fn end(a: &[u8], l: usize) -> u8
-    requires { ⌜ l < length (now a) ⌝ }
-    ensures { λ s. ⌜ s ≡ getD (now (a .entry)) l 0 ⌝ }
-{
-    a[l]
-}
-
-fn cost(c: &[u32], l: usize) -> u32
-    requires { ⌜ l < length (now c) ⌝ }
-    ensures { λ s. ⌜ s ≡ getD (now (c .entry)) l 0 ⌝ }
-{
-    c[l]
-}
 
 fn or_word(w: u32, v: u32) -> u32
     ensures { λ s. ⌜ s ≡ orWord w v ⌝ }
@@ -103,9 +87,9 @@ fn mark_link(a: &[u8], b: &[u8], c: &[u32], l: usize, d: &[[u32; 32]], w: &mut [
     requires { ⌜ l < length (now a) ⌝ }
     ensures { λ _. ⌜ Marked (now (d .entry)) (now (w .entry)) (now (w .exit)) (markLink (netOf (now (a .entry)) (now (b .entry)) (now (c .entry))) l) ⌝ }
 {
-    let x = end(a, l);
-    let y = end(b, l);
-    let k = cost(c, l);
+    let x = routes::end(a, l);
+    let y = routes::end(b, l);
+    let k = routes::cost(c, l);
     mark_pair(w, d, x, y, k);
 }
 
@@ -247,12 +231,6 @@ fn note_link(near: &mut [bool; 32], u: usize, x: usize, y: usize, p: u8, q: u8)
     note(near, u, y, x);
 }
 
-fn wide(x: u8) -> usize
-    ensures { λ r. ⌜ r ≡ x ⌝ }
-{
-    x as usize
-}
-
 // The neighbours of u that have another home than u.
 fn outlets(a: &[u8], b: &[u8], homes: &[u8], u: usize, near: &mut [bool; 32])
     requires { ⌜ Homed (now a) (now b) (now homes) (length (now homes)) ⌝ }
@@ -261,10 +239,10 @@ fn outlets(a: &[u8], b: &[u8], homes: &[u8], u: usize, near: &mut [bool; 32])
 {
     let mut l = 0;
     while l < a.len() {
-        let x = wide(end(a, l));
-        let y = wide(end(b, l));
-        let p = end(homes, x);
-        let q = end(homes, y);
+        let x = routes::wide(routes::end(a, l));
+        let y = routes::wide(routes::end(b, l));
+        let p = routes::end(homes, x);
+        let q = routes::end(homes, y);
         note_link(near, u, x, y, p, q);
         l += 1;
     }
@@ -401,7 +379,7 @@ fn alternates_at(
     requires { ⌜ (length (now d) ≤ 32) × (u < length (now homes)) × (u < length (now alts)) ⌝ }
     ensures { λ _. ⌜ RowAt (now (a .entry)) (now (b .entry)) (now (homes .entry)) i (now (d .entry)) u (now (alts .entry)) (now (alts .exit)) ⌝ }
 {
-    let p = end(homes, u);
+    let p = routes::end(homes, u);
     if p == i {
         alts[u] = alternates_of(a, b, homes, d, u);
     }

@@ -44,13 +44,13 @@ fn cost_of(p: u8, q: u8, i: u8, w: u16, r: u32) -> u32
     w as u32
 }
 
-fn wide(x: u8) -> usize
+pub fn wide(x: u8) -> usize
     ensures { λ r. ⌜ r ≡ x ⌝ }
 {
     x as usize
 }
 
-fn end(a: &[u8], l: usize) -> u8
+pub fn end(a: &[u8], l: usize) -> u8
     requires { ⌜ l < length (now a) ⌝ }
     ensures { λ s. ⌜ s ≡ getD (now (a .entry)) l 0 ⌝ }
 {
@@ -64,7 +64,7 @@ fn weight(row: &[u16], l: usize) -> u16
     row[l]
 }
 
-fn cost(c: &[u32], l: usize) -> u32
+pub fn cost(c: &[u32], l: usize) -> u32
     requires { ⌜ l < length (now c) ⌝ }
     ensures { λ s. ⌜ s ≡ getD (now (c .entry)) l 0 ⌝ }
 {
