@@ -1,21 +1,21 @@
 -- The alternates by flags and words are the published ones, for the distances of an accepted set.
-use Prim.Native.Nat.{ℕ, zero, suc, _+_, _-_, _*_, _≤_, _<_, min}
-use native.Mathlib.Nat.{le-refl, le-antisymm, eq-or-lt-of-le, le-of-suc-le-suc}
+use Prim.Native.Nat.{ℕ, zero, suc, _≤_, _<_, min}
+use native.Mathlib.Nat.{eq-or-lt-of-le, le-of-suc-le-suc}
 use native.Mathlib.Omega.{arith}
 use mathlib.Core.Path.{_≡_, refl, sym, ap, ap₂, _∙_}
-use mathlib.Core.Bool.{Bool, true, false, not, _&&_, _||_, false≢true, true≢false}
+use mathlib.Core.Bool.{Bool, true, false, not, _&&_, _||_, false≢true}
 use mathlib.Core.Logic.{_⊎_, inl, inr, ⊎-elim}
-use mathlib.Core.List.{List, []}
+use mathlib.Core.List.{List}
 use lib.Dec.{eqb}
-use lib.ListN.{length, getD, set, replicate, length-set, length-replicate, getD-replicate, List·getD-eq-default}
+use lib.ListN.{length, getD, replicate, length-set, length-replicate, getD-replicate, List·getD-eq-default}
 use lib.Seq.{getD-set-same, getD-set-other}
 use borrow.Author.Tests.{eqb-true, eqb-false, eq-eqb, ne-eqb, not-true}
 use Rattle.rules.specs.Basics.{if_then_else_, lowest, least}
 use Rattle.rules.specs.File.{Set}
 use Rattle.rules.specs.Isolation.{home, isolated, neighbours, linkBetween}
 use Rattle.rules.specs.Distance.{far, distances, distance, candidate, nearest, alternate}
-use Rattle.rules.specs.Demands.{AcceptedSet, AlternateIs}
-use Rattle.rules.proofs.Choices.{and-of, and-left, and-right, or-left, or-right, or-cases, if-yes, if-no, clash, same-test, false-of}
+use Rattle.rules.specs.Demands.{AcceptedSet}
+use Rattle.rules.proofs.Choices.{and-of, and-left, and-right, or-left, or-right, or-cases, if-yes, if-no, clash, same-test}
 use Rattle.rules.proofs.Numbers.{lowest-found, lowest-is, lowest-ext, least-ext}
 use Rattle.rules.proofs.Links.{Ends, link-below, link-ends, ends-neighbours, neighbours-below}
 use Rattle.rules.proofs.Homes.{Outlet, home-low, home-isolated, away}
@@ -24,7 +24,7 @@ use Rattle.routes.specs.Lanes.{column}
 use Rattle.routes.specs.Costs.{Distances}
 use Rattle.routes.proofs.Sweeps.{same?}
 use Rattle.routes.proofs.Exact.{distance-entry}
-use Rattle.hops.specs.Ties.{orWord, bitFor, firstOf}
+use Rattle.hops.specs.Ties.{firstOf}
 use Rattle.hops.specs.Alternates.{noted, notedLink, outletsBy, eligible, leastOf, nearBit, nearWord, alternateBy, alternateOf}
 use Rattle.hops.proofs.Lowest.{first-or, first-pick, first-zero}
 use Rattle.hops.proofs.NextHops.{split}
@@ -275,14 +275,14 @@ module _ (S : Set) (A : AcceptedSet S) (u : ℕ) (lu : u < S .net .n) where
         let best = leastOf near d v (S .net .n) in
         let few = A .rules .limits .nodes .1 in
         let same = lowest-ext (chosen near d v best) published (S .net .n) 32
-            (λ w lw. ap₂ _&&_ (eligible-is v w) (ap₂ eqb (keys w lw) least-is-published)) in
+        (λ w lw. ap₂ _&&_ (eligible-is v w) (ap₂ eqb (keys w lw) least-is-published)) in
         sym (word-first near d v best (S .net .n) few ∙ same ∙ either (lowest-is published (S .net .n) 255))
       where
         -- an alternate is a candidate, and 255 is no node
         none : lowest published (S .net .n) 255 ≡ 255 → 255 < S .net .n
         none q =
             let is : alternate S u v ≡ 255 = if-yes (neighbours S u v && not (eqb (home S u) (home S v))) (nearest S u v (distances S (home S u) v)) 255
-                (and-of (neighbours S u v) (not (eqb (home S u) (home S v))) n (rw (ne-eqb (home S u) (home S v) ne))) ∙ q in
+            (and-of (neighbours S u v) (not (eqb (home S u) (home S v))) n (rw (ne-eqb (home S u) (home S v) ne))) ∙ q in
             let c : candidate S u v 255 ≡ true = rw is at (nearest-alternates S A u v lu lv n ne .chosen) in
             candidate-outlet S A u lu v 255 c .0 .node
 

@@ -1,11 +1,11 @@
 -- Laws of alternates, as the functions use them.
-use Prim.Native.Nat.{ℕ, zero, suc, _+_, _-_, _*_, _≤_, _<_, min}
+use Prim.Native.Nat.{ℕ, _+_, _≤_, _<_, min}
 use native.Mathlib.Numerals.{add-one}
 use native.Mathlib.Omega.{arith}
-use mathlib.Core.Path.{_≡_, refl, sym, ap, ap₂, subst, _∙_}
-use mathlib.Core.Bool.{Bool, true, false, not, _&&_, _||_}
-use mathlib.Core.Logic.{_⊎_, inl, inr, ⊎-elim}
-use mathlib.Core.List.{List, [], _∷_}
+use mathlib.Core.Path.{_≡_, refl, sym, ap, subst, _∙_}
+use mathlib.Core.Bool.{Bool, true, false, _&&_, _||_}
+use mathlib.Core.Logic.{⊎-elim}
+use mathlib.Core.List.{List, []}
 use lib.ListN.{length, getD, set, replicate, length-set}
 use lib.Seq.{getD-set-same, getD-set-other}
 use lib.Dec.{eqb}
@@ -87,8 +87,8 @@ another near v w ne = rw (ne-eqb w v ne) (go (getD near w false))
     go true = refl
     go false = refl
 
-pub entry-at : (d : List (List ℕ)) (w v : ℕ) → getD (getD d w []) v 0 ≡ getD (column v d) w 0
-entry-at d w v = sym (column-at v w d)
+pub entry-at : (d : List (List ℕ)) (w v s : ℕ) → s ≡ getD (getD d w []) v 0 → s ≡ getD (column v d) w 0
+entry-at d w v s e = e ∙ sym (column-at v w d)
 
 pub lesser-new : (ok : Bool) (key best : ℕ) → ok ≡ true → key < best → key ≡ lesserOf ok key best
 unfolding lesserOf

@@ -1,18 +1,18 @@
 -- The next hops by tie words are the published ones, for the costs and distances of an accepted set.
-use Prim.Native.Nat.{ℕ, zero, suc, _+_, _-_, _*_, _≤_, _<_, min}
+use Prim.Native.Nat.{ℕ, zero, suc, _+_, _≤_, _<_}
 use native.Mathlib.Nat.{le-trans, min-le-left, min-le-right, min-eq-left, min-eq-right, eq-or-lt-of-le, le-of-suc-le-suc, le-of-lt, le-antisymm}
 use native.Mathlib.Omega.{arith}
-use mathlib.Core.Path.{_≡_, refl, sym, ap, _∙_}
+use mathlib.Core.Path.{_≡_, refl, sym, _∙_}
 use mathlib.Core.Bool.{Bool, true, false}
 use mathlib.Core.Logic.{_⊎_, inl, inr, ⊎-elim}
-use mathlib.Core.List.{List, []}
-use lib.Dec.{eqb, leb}
+use mathlib.Core.List.{List}
+use lib.Dec.{eqb}
 use lib.ListN.{length, getD}
-use borrow.Author.Tests.{eqb-true, eqb-false, eq-eqb, ne-eqb, leb-true, leb-false}
+use borrow.Author.Tests.{eqb-true, eqb-false, eq-eqb}
 use Rattle.rules.specs.Basics.{if_then_else_, lowest, upTo, flat}
 use Rattle.rules.specs.File.{Set}
-use Rattle.rules.specs.Isolation.{linkBetween, hopWeight, usable}
-use Rattle.rules.specs.Distance.{far, distance, distances, nextHop, onLeastPath}
+use Rattle.rules.specs.Isolation.{linkBetween}
+use Rattle.rules.specs.Distance.{distance, distances, nextHop, onLeastPath}
 use Rattle.rules.specs.Demands.{AcceptedSet}
 use Rattle.rules.proofs.Choices.{if-yes, if-no}
 use Rattle.rules.proofs.Rows.{upTo-ext, flat-ext}
@@ -23,15 +23,12 @@ use Rattle.routes.specs.Sweeps.{Net}
 use Rattle.routes.specs.Lanes.{column, netOf}
 use Rattle.routes.specs.Costs.{cost, Distances}
 use Rattle.routes.proofs.Sweeps.{Leads}
+use Rattle.routes.proofs.Lanes.{in-or-out}
 use Rattle.routes.proofs.Exact.{CostIs, unused, used, cost-is, hop-cost, cost-entry, distance-entry}
 use Rattle.hops.specs.Ties.{via, tieEnd, lowestEnd, tieHop, tieTable}
 
 pub split : (m n : ℕ) → (m ≤ n) ⊎ (n < m)
-split m n = go (leb m n) refl
-  where
-    go : (b : Bool) → leb m n ≡ b → (m ≤ n) ⊎ (n < m)
-    go true e = inl (leb-true m n e)
-    go false e = inr (leb-false m n e)
+split m n = ⊎-elim (λ (h : n < m). inr h) (λ (h : m ≤ n). inl h) (in-or-out n m)
 
 -- ---- the links that tie
 

@@ -1,11 +1,11 @@
 -- Laws of tie words and next hops, as the functions use them.
-use Prim.Native.Nat.{ℕ, zero, suc, _+_, _-_, _*_, _%_, _^_, _≤_, _<_, zero-le}
-use native.Mathlib.Nat.{eq-or-lt-of-le, le-of-suc-le-suc, le-refl, le-trans}
+use Prim.Native.Nat.{ℕ, zero, suc, _+_, _-_, _*_, _%_, _^_, _≤_, _<_}
+use native.Mathlib.Nat.{eq-or-lt-of-le, le-of-suc-le-suc, le-refl}
 use native.Mathlib.Numerals.{add-one}
 use native.Mathlib.Omega.{arith}
 use mathlib.Core.Path.{_≡_, refl, sym, ap, subst, _∙_}
-use mathlib.Core.Logic.{_⊎_, inl, inr, ⊎-elim}
-use mathlib.Core.List.{List, [], _∷_, _++_}
+use mathlib.Core.Logic.{⊎-elim}
+use mathlib.Core.List.{List, [], _++_}
 use lib.ListN.{length, getD, set, drop, take, replicate, length-set, length-replicate, getD-replicate}
 use lib.Seq.{getD-set-same, getD-set-other, ext-getD}
 use lib.Dec.{eqb}
@@ -14,15 +14,14 @@ use mir.Syntax.{w8}
 use mir.Val.{Fits}
 use borrow.Author.Count.{below-more, below-none}
 use borrow.Author.Tests.{eq-eqb, ne-eqb}
-use Rattle.rules.specs.Basics.{if_then_else_, upTo, flat}
-use Rattle.rules.specs.Distance.{far}
+use Rattle.rules.specs.Basics.{upTo, flat}
 use Rattle.rules.proofs.Choices.{if-yes, if-no}
 use Rattle.rules.proofs.Rows.{length-upTo, upTo-ext, flat-ext}
 use Rattle.routes.specs.Sweeps.{Net}
-use Rattle.routes.specs.Lanes.{column, LowCols, LowRow, Wired, netOf}
+use Rattle.routes.specs.Lanes.{column, Wired, netOf}
 use Rattle.routes.proofs.Sweeps.{same?}
 use Rattle.routes.proofs.Lanes.{column-at, column-long, column-set}
-use Rattle.routes.proofs.Filling.{fill-none, fill-more, fill-done, rows-more, rows-done}
+use Rattle.routes.proofs.Filling.{fill-more, fill-done, rows-more, rows-done}
 use Rattle.hops.specs.Ties.{orWord, tieOf, bitFor, firstOf, markLane, marked, mark, markBoth, markLink, marks, WideRows, Marked, MarkSpot, MarkPair, Clear, Worded, hopOf, hopAt, hopsOf, tieHop, tieTable}
 use Rattle.hops.proofs.Lowest.{hop-is}
 
@@ -158,14 +157,14 @@ pub bit-is : (y : ℕ) → y < 32 → (1 * 2 ^ y) % 4294967296 ≡ bitFor y
 unfolding bitFor
 bit-is y h = let p : 2 ^ y ≤ 2 ^ 31 = lib.Pow.pow-mono {i = y} {j = 31} (omega arith) in omega (arith, p)
 
-
 -- ---- `first`, `hop`
 pub first-is : (w : ℕ) → trailingZeros 32 w ≡ firstOf w
 unfolding firstOf
 first-is w = refl
 
-pub first-fits : (w : ℕ) → Fits w8 (trailingZeros 32 w)
-first-fits w = record { fits = omega (arith, trailing-le 32 w) }
+pub first-fits : (w z : ℕ) → z ≡ firstOf w → Fits w8 z
+unfolding firstOf
+first-fits w z e = record { fits = omega (arith, trailing-le 32 w) }
 
 pub hop-self : (w u t : ℕ) → u ≡ t → u ≡ hopOf w u t
 unfolding hopOf

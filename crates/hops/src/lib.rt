@@ -1,11 +1,9 @@
-// The next hops of one topology and the alternates of the nodes whose home it is, by its costs and distances. Next hops are found by
-// words: for each node and destination the neighbours that tie, as bits, of which the lowest is taken. It promises what specs/ says of
-// any links and distances; that this is what 01 asks, for the distances of an accepted set, is shown in proofs/.
+// The next hops of one topology and the alternates of the nodes whose home it is. It promises what specs/ says, of any links and distances;
+// that this is what 01 asks of an accepted set is shown in proofs/. The neighbours that tie are the bits of a word, of which the lowest is taken.
 ghost use mathlib.Core.Path.{_≡_};
-ghost use mathlib.Core.Bool.{Bool, true, false, _||_};
+ghost use mathlib.Core.Bool.{false, _||_};
 ghost use lib.Dec.{eqb};
 ghost use Prim.Native.Nat.{ℕ, _+_, _*_, _^_, _≤_, _<_, min};
-ghost use mathlib.Core.List.{List, []};
 ghost use lib.ListN.{length, getD, set, replicate};
 ghost use Rattle.rules.specs.Basics.{upTo, flat};
 ghost use Rattle.rules.specs.Distance.{far};
@@ -18,20 +16,6 @@ const FAR: u32 = 1073741824;
 
 // No alternate.
 const NONE: u8 = 255;
-
-fn end(a: &[u8], l: usize) -> u8
-    requires { ⌜ l < length (now a) ⌝ }
-    ensures { λ s. ⌜ s ≡ getD (now (a .entry)) l 0 ⌝ }
-{
-    a[l]
-}
-
-fn cost(c: &[u32], l: usize) -> u32
-    requires { ⌜ l < length (now c) ⌝ }
-    ensures { λ s. ⌜ s ≡ getD (now (c .entry)) l 0 ⌝ }
-{
-    c[l]
-}
 
 fn or_word(w: u32, v: u32) -> u32
     ensures { λ s. ⌜ s ≡ orWord w v ⌝ }
@@ -103,9 +87,9 @@ fn mark_link(a: &[u8], b: &[u8], c: &[u32], l: usize, d: &[[u32; 32]], w: &mut [
     requires { ⌜ l < length (now a) ⌝ }
     ensures { λ _. ⌜ Marked (now (d .entry)) (now (w .entry)) (now (w .exit)) (markLink (netOf (now (a .entry)) (now (b .entry)) (now (c .entry))) l) ⌝ }
 {
-    let x = end(a, l);
-    let y = end(b, l);
-    let k = cost(c, l);
+    let x = routes::end(a, l);
+    let y = routes::end(b, l);
+    let k = routes::cost(c, l);
     mark_pair(w, d, x, y, k);
 }
 
@@ -152,10 +136,16 @@ fn words(a: &[u8], b: &[u8], c: &[u32], d: &[[u32; 32]], w: &mut [[u32; 32]])
 }
 
 // The lowest node of a word that has one.
+fn lowest_bit(w: u32) -> u32
+    ensures { λ s. ⌜ s ≡ firstOf w ⌝ }
+{
+    u32::trailing_zeros(w)
+}
+
 fn first(w: u32) -> u8
     ensures { λ s. ⌜ s ≡ firstOf w ⌝ }
 {
-    u32::trailing_zeros(w) as u8
+    lowest_bit(w) as u8
 }
 
 fn hop(w: u32, u: u8, t: u8) -> u8
@@ -196,7 +186,14 @@ fn hop_rows(w: &[[u32; 32]], out: &mut [u8])
 }
 
 // The next hops of a topology whose links cost c, by its distances d. w is room to work in.
-pub fn hop_table(a: &[u8], b: &[u8], c: &[u32], d: &[[u32; 32]], w: &mut [[u32; 32]], out: &mut [u8])
+pub fn hop_table(
+    a: &[u8],
+    b: &[u8],
+    c: &[u32],
+    d: &[[u32; 32]],
+    w: &mut [[u32; 32]],
+    out: &mut [u8],
+)
     requires { ⌜ Wired (now a) (now b) (now c) (length (now d)) ⌝ }
     requires { ⌜ LowCols (now d) ⌝ }
     requires { ⌜ (length (now w) ≡ length (now d)) × (length (now out) ≡ length (now d) * length (now d)) ⌝ }
@@ -234,12 +231,6 @@ fn note_link(near: &mut [bool; 32], u: usize, x: usize, y: usize, p: u8, q: u8)
     note(near, u, y, x);
 }
 
-fn wide(x: u8) -> usize
-    ensures { λ r. ⌜ r ≡ x ⌝ }
-{
-    x as usize
-}
-
 // The neighbours of u that have another home than u.
 fn outlets(a: &[u8], b: &[u8], homes: &[u8], u: usize, near: &mut [bool; 32])
     requires { ⌜ Homed (now a) (now b) (now homes) (length (now homes)) ⌝ }
@@ -248,10 +239,10 @@ fn outlets(a: &[u8], b: &[u8], homes: &[u8], u: usize, near: &mut [bool; 32])
 {
     let mut l = 0;
     while l < a.len() {
-        let x = wide(end(a, l));
-        let y = wide(end(b, l));
-        let p = end(homes, x);
-        let q = end(homes, y);
+        let x = routes::wide(routes::end(a, l));
+        let y = routes::wide(routes::end(b, l));
+        let p = routes::end(homes, x);
+        let q = routes::end(homes, y);
         note_link(near, u, x, y, p, q);
         l += 1;
     }
@@ -268,12 +259,18 @@ fn stands_in(near: &[bool; 32], v: usize, w: usize) -> bool
     near[w]
 }
 
+fn lane(r: &[u32; 32], v: usize) -> u32
+    requires { ⌜ v < 32 ⌝ }
+    ensures { λ s. ⌜ s ≡ getD (now (r .entry)) v 0 ⌝ }
+{
+    r[v]
+}
+
 fn distance_at(d: &[[u32; 32]], w: usize, v: usize) -> u32
     requires { ⌜ (w < length (now d)) × (v < 32) ⌝ }
     ensures { λ s. ⌜ s ≡ getD (column v (now (d .entry))) w 0 ⌝ }
 {
-    let r = d[w];
-    r[v]
+    lane(&d[w], v)
 }
 
 fn lesser_of(ok: bool, key: u32, best: u32) -> u32
@@ -324,8 +321,8 @@ fn nearest(near: &[bool; 32], d: &[[u32; 32]], v: usize, best: u32) -> u32
     let mut w: usize = 0;
     while w < d.len() {
         let ok = stands_in(near, v, w);
-        let key = distance_at(d, w, v);
-        let bit = near_bit(ok, key, best, w);
+        let reach = distance_at(d, w, v);
+        let bit = near_bit(ok, reach, best, w);
         word = or_word(word, bit);
         w += 1;
     }
@@ -369,12 +366,20 @@ fn alternates_of(a: &[u8], b: &[u8], homes: &[u8], d: &[[u32; 32]], u: usize) ->
 }
 
 // Into row u of alts, where the home of u is i.
-fn alternates_at(a: &[u8], b: &[u8], homes: &[u8], i: u8, d: &[[u32; 32]], u: usize, alts: &mut [[u8; 32]])
+fn alternates_at(
+    a: &[u8],
+    b: &[u8],
+    homes: &[u8],
+    i: u8,
+    d: &[[u32; 32]],
+    u: usize,
+    alts: &mut [[u8; 32]],
+)
     requires { ⌜ Homed (now a) (now b) (now homes) (length (now homes)) ⌝ }
     requires { ⌜ (length (now d) ≤ 32) × (u < length (now homes)) × (u < length (now alts)) ⌝ }
     ensures { λ _. ⌜ RowAt (now (a .entry)) (now (b .entry)) (now (homes .entry)) i (now (d .entry)) u (now (alts .entry)) (now (alts .exit)) ⌝ }
 {
-    let p = end(homes, u);
+    let p = routes::end(homes, u);
     if p == i {
         alts[u] = alternates_of(a, b, homes, d, u);
     }

@@ -1,21 +1,19 @@
 -- Laws of the row in force and of the cost row, as the functions use them.
-use Prim.Native.Nat.{ℕ, zero, suc, _+_, _-_, _*_, _^_, _≤_, _<_}
+use Prim.Native.Nat.{ℕ, suc, _+_, _-_, _*_, _≤_, _<_}
 use native.Mathlib.Nat.{suc-mul, mul-le-mul}
 use native.Mathlib.Omega.{arith}
-use mathlib.Core.Path.{_≡_, refl, sym, ap, _∙_}
-use mathlib.Core.Bool.{true, false}
-use mathlib.Core.List.{List, [], _∷_, _++_}
-use lib.Dec.{eqb}
+use mathlib.Core.Path.{_≡_, sym, ap, _∙_}
+use mathlib.Core.List.{List, _++_}
 use lib.ListN.{length, getD, set, take, drop}
 use lib.Seq.{length-take-le}
 use borrow.Author.Tests.{eq-eqb, ne-eqb}
 use mir.Syntax.{w64}
 use mir.Val.{Fits}
 use Rattle.rules.specs.Basics.{upTo}
-use Rattle.rules.specs.Isolation.{Class, classBy}
+use Rattle.rules.specs.Isolation.{classBy}
 use Rattle.rules.specs.Distance.{far}
 use Rattle.routes.specs.Costs.{costBy, rowOf, HoldsRow, costOf, costAt, Links}
-use Rattle.routes.proofs.Filling.{fill-none, fill-more, fill-done}
+use Rattle.routes.proofs.Filling.{fill-more}
 
 -- ---- `row_in_force`
 

@@ -1,10 +1,10 @@
 -- The swept distances are the published ones: the costs of an accepted set's links, and what n sweeps over them leave.
 use Prim.Native.Nat.{ℕ, zero, suc, _+_, _-_, _*_, _≤_, _<_}
-use native.Mathlib.Nat.{le-refl, eq-or-lt-of-le, le-of-suc-le-suc}
+use native.Mathlib.Nat.{eq-or-lt-of-le, le-of-suc-le-suc}
 use native.Mathlib.Omega.{arith}
 use mathlib.Core.Path.{_≡_, refl, sym, ap, ap₂, _∙_}
 use mathlib.Core.Bool.{Bool, true, false}
-use mathlib.Core.Logic.{_⊎_, inl, inr, ⊎-elim}
+use mathlib.Core.Logic.{inl, inr, ⊎-elim}
 use mathlib.Core.List.{List, [], _∷_}
 use lib.ListN.{length, getD}
 use lib.Seq.{ext-getD}
@@ -17,14 +17,14 @@ use Rattle.rules.specs.Demands.{AcceptedSet, MeetsRules}
 use Rattle.rules.proofs.Choices.{false-of, if-yes}
 use Rattle.rules.proofs.Numbers.{lowest-one}
 use Rattle.rules.proofs.Rows.{length-upTo, getD-upTo}
-use Rattle.rules.proofs.Links.{Ends, turned, joins-ends, ends-join, link-below, link-ends, ends-neighbours, class-ends, hop-neighbours, hop-out, hop-into, hop-plain, usable-hop, hop-usable, hop-normal, hop-light, restricted-bound}
+use Rattle.rules.proofs.Links.{Ends, joins-ends, ends-join, link-below, link-ends, ends-neighbours, class-ends, hop-neighbours, hop-out, hop-into, hop-plain, usable-hop, hop-usable, hop-normal, hop-light, restricted-bound}
 use Rattle.rules.proofs.Distances.{distance-far}
-use Rattle.rules.proofs.Reach.{some-weight, below-far, distance-self, distance-over}
-use Rattle.rules.proofs.NextHops.{Next, next}
+use Rattle.rules.proofs.Reach.{some-weight, distance-self, distance-over}
+use Rattle.rules.proofs.NextHops.{next}
 use Rattle.routes.specs.Sweeps.{Net, rounds, start}
 use Rattle.routes.specs.Lanes.{column, netOf, Wired, Settled}
 use Rattle.routes.specs.Costs.{costBy, cost, Distances}
-use Rattle.routes.proofs.Sweeps.{rounds-length, start-length, Leads, Tight, Exact, rounds-reach}
+use Rattle.routes.proofs.Sweeps.{rounds-length, start-length, Exact, rounds-reach}
 
 -- ---- "at most one link per pair"
 

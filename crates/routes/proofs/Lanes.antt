@@ -1,5 +1,5 @@
 -- Laws of rows by lanes and of matrices by columns, as the functions use them.
-use Prim.Native.Nat.{ℕ, zero, suc, _+_, _-_, _*_, _≤_, _<_, min, max, zero-le}
+use Prim.Native.Nat.{ℕ, zero, suc, _+_, _-_, _≤_, _<_, min, zero-le}
 use native.Mathlib.Nat.{le-trans, eq-or-lt-of-le, le-of-suc-le-suc, le-refl}
 use native.Mathlib.Numerals.{add-one}
 use native.Mathlib.Omega.{arith}
@@ -18,9 +18,9 @@ use mir.Syntax.{w32}
 use mir.Val.{Fits, toZ}
 use mir.Facts.{toZ-pos}
 use Rattle.rules.specs.Distance.{far}
-use Rattle.routes.specs.Sweeps.{Net, lower, both, sweep, rounds, start, Low}
+use Rattle.routes.specs.Sweeps.{lower, both, sweep, rounds, start, Low}
 use Rattle.routes.specs.Lanes.{lane, lanes, RowBecame, LowRow, Fell, Joined, column, Each, Cols, LowCols, Spot, Wired, netOf, unitRow, Begun, Settled}
-use Rattle.routes.proofs.Sweeps.{same?, lower-le, lower-length, sweep-le, sweep-length, rounds-le, rounds-length, rounds-still, rounds-add, start-low}
+use Rattle.routes.proofs.Sweeps.{same?, lower-le, sweep-le, rounds-le, rounds-still, rounds-add, start-low}
 
 -- ---- `join`
 or-zero : (a b : ℕ) → bitOr a b ≡ 0 → (a ≡ 0) × (b ≡ 0)

@@ -1,8 +1,8 @@
 -- What sweeps over the links leave: as many as there are nodes reach the distances, whatever these are, by three facts of them.
-use Prim.Native.Nat.{ℕ, zero, suc, _+_, _*_, _-_, _≤_, _<_, min, zero-le}
+use Prim.Native.Nat.{ℕ, zero, suc, _+_, _≤_, _<_, min, zero-le}
 use native.Mathlib.Nat.{le-refl, le-trans, min-le-left, min-le-right, eq-or-lt-of-le, le-of-suc-le-suc, add-zero, add-suc, le-antisymm}
 use native.Mathlib.Omega.{arith}
-use mathlib.Core.Path.{_≡_, refl, sym, ap, _∙_}
+use mathlib.Core.Path.{_≡_, refl, ap, _∙_}
 use mathlib.Core.Bool.{Bool, true, false}
 use mathlib.Core.Logic.{_⊎_, inl, inr, ⊎-elim}
 use mathlib.Core.List.{List, [], _∷_}

@@ -1,10 +1,9 @@
 -- The cost of each link in a topology, as one row: the weight of a usable link, and `far` for one that is never used.
-use Prim.Native.Nat.{ℕ, zero, suc, _+_, _*_, _≤_, _<_}
+use Prim.Native.Nat.{ℕ, zero, suc, _*_, _≤_, _<_}
 use mathlib.Core.Path.{_≡_}
 use mathlib.Core.List.{List}
 use lib.Dec.{eqb}
 use lib.ListN.{length, getD, take, drop}
-use Rattle.rules.specs.Basics.{if_then_else_, upTo}
 use Rattle.rules.specs.Limits.{restrictedWeight}
 use Rattle.rules.specs.File.{Set}
 use Rattle.rules.specs.Isolation.{Class, classBy, class, rowInForce}

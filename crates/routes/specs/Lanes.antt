@@ -1,10 +1,10 @@
 -- A matrix is a list of rows, one for each node, each of 32 lanes, one for each destination. Column t of it is the list that a sweep toward t speaks of.
 use Prim.Native.Nat.{ℕ, zero, suc, _+_, _≤_, _<_, min}
 use mathlib.Core.Path.{_≡_}
-use mathlib.Core.List.{List, [], map}
+use mathlib.Core.List.{List, map}
 use lib.ListN.{length, getD, set, replicate}
 use Rattle.rules.specs.Distance.{far}
-use Rattle.routes.specs.Sweeps.{Net, lower, both, sweep, rounds, start, Low}
+use Rattle.routes.specs.Sweeps.{Net, rounds, start, Low}
 
 -- ---- a row
 

@@ -44,13 +44,13 @@ fn cost_of(p: u8, q: u8, i: u8, w: u16, r: u32) -> u32
     w as u32
 }
 
-fn wide(x: u8) -> usize
+pub fn wide(x: u8) -> usize
     ensures { λ r. ⌜ r ≡ x ⌝ }
 {
     x as usize
 }
 
-fn end(a: &[u8], l: usize) -> u8
+pub fn end(a: &[u8], l: usize) -> u8
     requires { ⌜ l < length (now a) ⌝ }
     ensures { λ s. ⌜ s ≡ getD (now (a .entry)) l 0 ⌝ }
 {
@@ -64,14 +64,23 @@ fn weight(row: &[u16], l: usize) -> u16
     row[l]
 }
 
-fn cost(c: &[u32], l: usize) -> u32
+pub fn cost(c: &[u32], l: usize) -> u32
     requires { ⌜ l < length (now c) ⌝ }
     ensures { λ s. ⌜ s ≡ getD (now (c .entry)) l 0 ⌝ }
 {
     c[l]
 }
 
-fn link_cost(a: &[u8], b: &[u8], homes: &[u8], row: &[u16], i: u8, r: u32, m: usize, l: usize) -> u32
+fn link_cost(
+    a: &[u8],
+    b: &[u8],
+    homes: &[u8],
+    row: &[u16],
+    i: u8,
+    r: u32,
+    m: usize,
+    l: usize,
+) -> u32
     requires { ⌜ Links (now a) (now b) (now homes) (now row) m ⌝ }
     requires { ⌜ l < m ⌝ }
     ensures { λ s. ⌜ s ≡ costAt (now (a .entry)) (now (b .entry)) (now (homes .entry)) (now (row .entry)) i r l ⌝ }
@@ -237,4 +246,3 @@ pub fn distances(a: &[u8], b: &[u8], c: &[u32], d: &mut [[u32; 32]])
     begin(d);
     settle(a, b, c, d);
 }
-

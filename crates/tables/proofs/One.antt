@@ -1,43 +1,39 @@
 -- Laws of one topology's tables, as the functions use them.
-use Prim.Native.Nat.{ℕ, zero, suc, _+_, _-_, _*_, _≤_, _<_}
+use Prim.Native.Nat.{ℕ, suc, _*_, _≤_, _<_}
 use native.Mathlib.Nat.{mul-le-mul, le-trans, eq-or-lt-of-le, le-of-suc-le-suc}
 use native.Mathlib.Omega.{arith}
 use mathlib.Core.Path.{_≡_, refl, sym, ap, subst, _∙_}
-use mathlib.Core.Logic.{_⊎_, inl, inr, ⊎-elim}
-use mathlib.Core.List.{List, []}
+use mathlib.Core.Logic.{⊎-elim}
+use mathlib.Core.List.{List}
 use lib.ListN.{length, getD}
 use mir.Syntax.{w32}
 use mir.Val.{Fits}
 use Rattle.rules.specs.declared.Network.{Network}
-use Rattle.rules.specs.Basics.{need, upTo, flat}
+use Rattle.rules.specs.Basics.{need, upTo}
 use Rattle.rules.specs.Limits.{restrictedWeight, homeRecords}
 use Rattle.rules.specs.File.{Set}
 use Rattle.rules.specs.Isolation.{home}
 use Rattle.rules.specs.Demands.{AcceptedSet}
 use Rattle.rules.specs.Entries.{lists, setWith}
-use Rattle.routes.specs.Sweeps.{Net, rounds, start, Low}
-use Rattle.routes.specs.Lanes.{column, LowCols, Wired, netOf, Settled}
-use Rattle.routes.specs.Costs.{cost, rowOf, HoldsRow, costAt, Links, Distances}
+use Rattle.routes.specs.Sweeps.{start}
+use Rattle.routes.specs.Lanes.{LowCols, Wired, netOf, Settled}
+use Rattle.routes.specs.Costs.{cost, rowOf, costAt, Links, Distances}
 use Rattle.routes.proofs.Sweeps.{rounds-le, start-low}
 use Rattle.routes.proofs.Exact.{costs-wired, settled-distances}
-use Rattle.routes.proofs.Held.{holds-row, held-links, held-costs}
+use Rattle.routes.proofs.Held.{held-links, held-costs}
 use Rattle.hops.specs.Ties.{tieTable}
 use Rattle.hops.specs.Alternates.{Homed, RowsTo}
 use Rattle.hops.proofs.NextHops.{tie-table}
 use Rattle.hops.proofs.Detours.{alternate-of}
 use Rattle.tables.specs.Stages.{hopTable, Ready, AlternatesBelow, Work, Added}
 
--- ---- `restricted_weight`
-module _ (net : Network) (few : net .m ≤ 128) (small : net .wmax < 65536) where
-  pub weight-fits : (m wmax : ℕ) → m ≡ net .m → wmax ≡ net .wmax → Fits w32 (2 * m * wmax)
-  weight-fits m wmax em ew =
-      let p : 2 * m ≤ 256 = omega arith in
-      let q : wmax ≤ 65535 = omega arith in
-      record { fits = omega (arith, mul-le-mul p q) }
+-- ---- `product`, `restricted_weight`
+pub product-fits : (x y : ℕ) → (x ≤ 256) × (y < 65536) → Fits w32 (x * y)
+product-fits x y h = let q : y ≤ 65536 = omega (arith, h .1) in record { fits = omega (arith, mul-le-mul (h .0) q) }
 
-pub weight-is : (net : Network) → 2 * net .m * net .wmax ≡ restrictedWeight net
+pub weight-is : (net : Network) (m wmax r : ℕ) → m ≡ net .m → wmax ≡ net .wmax → r ≡ 2 * m * wmax → r ≡ restrictedWeight net
 unfolding restrictedWeight
-weight-is net = refl
+weight-is net m wmax r em ew e = e ∙ rw (em, ew)
 
 module _ (net : Network) (a b weights homes rows : List ℕ) (A : AcceptedSet (setWith net (lists a b weights homes rows))) where
   abbrev S : Set

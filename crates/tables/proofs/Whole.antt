@@ -1,10 +1,10 @@
 -- Laws of the whole tables, as the functions use them.
-use Prim.Native.Nat.{ℕ, zero, suc, _+_, _-_, _*_, _^_, _≤_, _<_, zero-le}
-use native.Mathlib.Nat.{zero-mul, mul-le-mul, mul-le-mul-right}
+use Prim.Native.Nat.{ℕ, _+_, _-_, _*_, _≤_, _<_, zero-le}
+use native.Mathlib.Nat.{mul-le-mul, mul-le-mul-right}
 use native.Mathlib.Numerals.{add-one}
 use native.Mathlib.Omega.{arith}
 use mathlib.Core.Path.{_≡_, refl, sym, ap, ap₂, subst, _∙_}
-use mathlib.Core.List.{List, [], _∷_, _++_, append-nil, append-assoc}
+use mathlib.Core.List.{List, [], _++_, append-nil, append-assoc}
 use lib.ListN.{length, getD, set, take, drop, length-drop, length-append}
 use lib.Seq.{drop-length, drop-drop, drop-at, take-at, length-take-le}
 use mir.Syntax.{w8, w64}
@@ -13,14 +13,13 @@ use Rattle.rules.specs.declared.Network.{Network}
 use Rattle.rules.specs.Basics.{upTo, flat}
 use Rattle.rules.specs.Limits.{tablesLength}
 use Rattle.rules.specs.File.{Set}
-use Rattle.rules.specs.Isolation.{home}
 use Rattle.rules.specs.Distance.{nextHop, alternate, tableBytes}
 use Rattle.rules.specs.Demands.{AcceptedSet}
 use Rattle.rules.specs.Entries.{lists, setWith}
 use Rattle.rules.proofs.Rows.{length-upTo, length-flat, upTo-ext, flat-ext}
 use Rattle.rules.proofs.Homes.{home-high}
 use Rattle.routes.proofs.Filling.{fill-more, fill-done, rows-more, rows-done, at-none, at-more, part-long}
-use Rattle.tables.specs.Stages.{hopTable, alternateTable, entry, entriesOf, AlternatesBelow, Work, Added, AddedAt, AllAdded, Roomy, Stage}
+use Rattle.tables.specs.Stages.{hopTable, entry, entriesOf, AlternatesBelow, Work, Added, AddedAt, AllAdded, Roomy, Stage}
 
 plus-minus : (p m : ℕ) → p + m - p ≡ m
 plus-minus p m = omega arith
