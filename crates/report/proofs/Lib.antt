@@ -1,0 +1,3 @@
+pub mod Texts
+pub mod Seens
+pub mod Wholes

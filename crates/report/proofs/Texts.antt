@@ -1,0 +1,116 @@
+-- Bytes written one after the other are their concatenation written at once; numbers, letters and byte strings as bytes.
+use mathlib.Core.Path.{_≡_, refl, sym, ap, subst, _∙_}
+use mathlib.Core.List.{List, [], _∷_, _++_, append-nil, append-assoc}
+use Prim.Native.Nat.{ℕ, zero, suc, _+_, _*_, _/_, _%_, _≤_, _<_}
+use native.Mathlib.Numerals.{add-one}
+use native.Mathlib.Omega.{arith}
+use lib.ListN.{length, getD, take, drop, set, length-append, length-set}
+use lib.Seq.{sets, set-out, sets-eq, take-suc, take-all}
+use Rattle.rules.specs.declared.Kind.{Kind}
+use Rattle.rules.specs.declared.Kind.the-variants as change
+use Rattle.rules.specs.Basics.{laid}
+use Rattle.rules.specs.Report.{decimal, space, newline, letter}
+use Rattle.rules.proofs.Fits.{decimal-one, decimal-two, decimal-three}
+use Rattle.report.specs.Text.{written, Wrote, field}
+
+-- ---- one after the other
+
+written-then : (text : List ℕ) (at : ℕ) (xs ys : List ℕ) → written (written text at xs) (at + length xs) ys ≡ written text at (xs ++ ys)
+unfolding written
+written-then text at [] ys = ap (λ (i : ℕ). sets text i ys) (omega arith)
+written-then text at (x ∷ xs) ys =
+    ap (λ (i : ℕ). sets (sets (set text at x) (suc at) xs) i ys) (omega arith) ∙ written-then (set text at x) (suc at) xs ys
+
+pub wrote-none : (text : List ℕ) (at most : ℕ) → Wrote text at [] most at text
+unfolding written
+wrote-none text at most = record { is = refl; on = omega arith; few = omega arith; long = refl }
+
+pub wrote-in : (text : List ℕ) (at x : ℕ) → Wrote text at (x ∷ []) 1 (at + 1) (set text at x)
+unfolding written
+wrote-in text at x = record { is = refl; on = refl; few = omega arith; long = length-set text at x }
+
+pub wrote-out : (text : List ℕ) (at x : ℕ) → length text ≤ at → Wrote text at (x ∷ []) 1 (at + 1) text
+unfolding written
+wrote-out text at x h = record { is = sym (set-out text at x h); on = refl; few = omega arith; long = refl }
+
+pub wrote-then : (old mid new : List ℕ) (at p q a b most : ℕ) (xs ys : List ℕ) → Wrote old at xs a p mid → Wrote mid p ys b q new → a + b ≤ most → Wrote old at (xs ++ ys) most q new
+wrote-then old mid new at p q a b most xs ys v w h =
+    record {
+      is = w .is ∙ ap (λ (t : List ℕ). written t p ys) (v .is) ∙ ap (λ (i : ℕ). written (written old at xs) i ys) (v .on) ∙ written-then old at xs ys;
+      on = omega (arith, v .on, w .on, length-append xs ys);
+      few = omega (arith, v .few, w .few);
+      long = w .long ∙ v .long;
+    }
+
+-- the same bytes under another name
+pub wrote-as : (old new : List ℕ) (at r most : ℕ) (xs ys : List ℕ) → xs ≡ ys → Wrote old at xs most r new → Wrote old at ys most r new
+wrote-as old new at r most xs ys e w = subst (λ (l : List ℕ). Wrote old at l most r new) e w
+
+-- what fits a text from its first byte on is laid at its front
+pub wrote-laid : (old new bytes : List ℕ) (most r : ℕ) → Wrote old 0 bytes most r new → length bytes ≤ length old → new ≡ laid bytes old
+unfolding written laid
+wrote-laid old new bytes most r w h =
+    let z : 0 + length bytes ≡ length bytes = omega arith in
+    w .is ∙ sets-eq bytes old 0 (omega arith) ∙ ap (λ (i : ℕ). bytes ++ drop i old) z
+
+-- ---- a byte string
+
+pub copied-none : (text bytes : List ℕ) (at : ℕ) → Wrote text at (take 0 bytes) 0 at text
+copied-none text bytes at = wrote-none text at 0
+
+pub copied-more : (old mid new bytes : List ℕ) (start at r i x : ℕ) → x ≡ getD bytes i 0 → i < length bytes
+    → Wrote old start (take i bytes) i at mid → Wrote mid at (x ∷ []) 1 r new → Wrote old start (take (i + 1) bytes) (i + 1) r new
+copied-more old mid new bytes start at r i x e l v w =
+    wrote-as old new start r (i + 1) (take i bytes ++ (x ∷ [])) (take (i + 1) bytes)
+    (ap (λ (y : ℕ). take i bytes ++ (y ∷ [])) e ∙ sym (take-suc bytes i 0 l) ∙ ap (λ (j : ℕ). take j bytes) (sym (add-one i)))
+    (wrote-then old mid new start at r i 1 (i + 1) (take i bytes) (x ∷ []) v w (omega arith))
+
+pub copied-all : (old new bytes : List ℕ) (start r i long : ℕ) → long ≡ length bytes → Wrote old start (take i bytes) i r new → i ≤ long → long ≤ i → Wrote old start bytes (length bytes) r new
+copied-all old new bytes start r i long z w a b =
+    let e : i ≡ length bytes = omega arith in
+    subst (λ (m : ℕ). Wrote old start bytes m r new) e (wrote-as old new start r i (take i bytes) bytes (take-all i bytes (omega arith)) w)
+
+-- ---- a number
+
+pub number-one : (old new : List ℕ) (at r x d : ℕ) → d ≡ 48 + x → x < 10 → Wrote old at (d ∷ []) 1 r new → Wrote old at (decimal x) 3 r new
+number-one old new at r x d e h w =
+    wrote-as old new at r 3 (d ∷ []) (decimal x) (ap (λ (y : ℕ). y ∷ []) e ∙ sym (decimal-one x h))
+    (record { is = w .is; on = w .on; few = omega (arith, w .few); long = w .long })
+
+pub number-two : (old mid new : List ℕ) (at p r x c d : ℕ) → c ≡ 48 + x / 10 → d ≡ 48 + x % 10 → 10 ≤ x → x < 100
+    → Wrote old at (c ∷ []) 1 p mid → Wrote mid p (d ∷ []) 1 r new → Wrote old at (decimal x) 3 r new
+number-two old mid new at p r x c d e f l h v w =
+    wrote-as old new at r 3 (c ∷ d ∷ []) (decimal x) (ap (λ (y : ℕ). y ∷ d ∷ []) e ∙ ap (λ (y : ℕ). (48 + x / 10) ∷ y ∷ []) f ∙ sym (decimal-two x l h))
+    (wrote-then old mid new at p r 1 1 3 (c ∷ []) (d ∷ []) v w (omega arith))
+
+pub number-three : (old mid mid′ new : List ℕ) (at p q r x b c d : ℕ) → b ≡ 48 + x / 10 / 10 → c ≡ 48 + x / 10 % 10 → d ≡ 48 + x % 10 → 100 ≤ x → x < 1000
+    → Wrote old at (b ∷ []) 1 p mid → Wrote mid p (c ∷ []) 1 q mid′ → Wrote mid′ q (d ∷ []) 1 r new → Wrote old at (decimal x) 3 r new
+number-three old mid mid′ new at p q r x b c d e f g l h u v w =
+    wrote-as old new at r 3 (b ∷ c ∷ d ∷ []) (decimal x)
+    (ap (λ (y : ℕ). y ∷ c ∷ d ∷ []) e ∙ ap (λ (y : ℕ). (48 + x / 10 / 10) ∷ y ∷ d ∷ []) f ∙ ap (λ (y : ℕ). (48 + x / 10 / 10) ∷ (48 + x / 10 % 10) ∷ y ∷ []) g
+    ∙ sym (decimal-three x l h))
+    (wrote-then old mid new at p r 1 2 3 (b ∷ []) (c ∷ d ∷ []) u (wrote-then mid mid′ new p q r 1 1 2 (c ∷ []) (d ∷ []) v w (omega arith)) (omega arith))
+
+pub field-of : (old mid new : List ℕ) (at p r x : ℕ) → Wrote old at (decimal x) 3 p mid → Wrote mid p (32 ∷ []) 1 r new → Wrote old at (field x) 4 r new
+unfolding field
+field-of old mid new at p r x v w = wrote-then old mid new at p r 3 1 4 (decimal x) space v w (omega arith)
+
+-- ---- a letter
+
+pub letter-none : (k : Kind) → k ≡ change.Unchanged → 45 ≡ letter k
+unfolding letter
+letter-none k e = rw e
+
+pub letter-t : (k : Kind) → k ≡ change.T → 84 ≡ letter k
+unfolding letter
+letter-t k e = rw e
+
+pub letter-s : (k : Kind) → k ≡ change.S → 83 ≡ letter k
+unfolding letter
+letter-s k e = rw e
+
+pub letter-d : (k : Kind) → k ≡ change.D → 68 ≡ letter k
+unfolding letter
+letter-d k e = rw e
+
+pub ruleset texts = (wrote-in, wrote-out, copied-none, copied-more, copied-all, number-one, number-two, number-three, field-of, letter-none, letter-t, letter-s, letter-d)
