@@ -1,7 +1,7 @@
 -- Bytes written one after the other are their concatenation written at once; numbers, letters and byte strings as bytes.
 use mathlib.Core.Path.{_≡_, refl, sym, ap, subst, _∙_}
 use mathlib.Core.List.{List, [], _∷_, _++_, append-nil, append-assoc}
-use Prim.Native.Nat.{ℕ, zero, suc, _+_, _*_, _/_, _%_, _≤_, _<_}
+use Prim.Native.Nat.{ℕ, zero, suc, _+_, _-_, _/_, _%_, _≤_, _<_}
 use native.Mathlib.Numerals.{add-one}
 use native.Mathlib.Omega.{arith}
 use lib.ListN.{length, getD, take, drop, set, length-append, length-set}
@@ -9,8 +9,8 @@ use lib.Seq.{sets, set-out, sets-eq, take-suc, take-all}
 use Rattle.rules.specs.declared.Kind.{Kind}
 use Rattle.rules.specs.declared.Kind.the-variants as change
 use Rattle.rules.specs.Basics.{laid}
-use Rattle.rules.specs.Report.{decimal, space, newline, letter}
-use Rattle.rules.proofs.Fits.{decimal-one, decimal-two, decimal-three}
+use Rattle.rules.specs.Report.{digits, decimal, space, newline, letter}
+use Rattle.rules.proofs.Fits.{digits-one, digits-more}
 use Rattle.report.specs.Text.{written, Wrote, field}
 
 -- ---- one after the other
@@ -72,28 +72,40 @@ copied-all old new bytes start r i long z w a b =
 
 -- ---- a number
 
-pub number-one : (old new : List ℕ) (at r x d : ℕ) → d ≡ 48 + x → x < 10 → Wrote old at (d ∷ []) 1 r new → Wrote old at (decimal x) 3 r new
-number-one old new at r x d e h w =
-    wrote-as old new at r 3 (d ∷ []) (decimal x) (ap (λ (y : ℕ). y ∷ []) e ∙ sym (decimal-one x h))
+digits-none : (x : ℕ) → digits 0 x ≡ (48 + x % 10) ∷ []
+unfolding digits
+digits-none x = refl
+
+pub one-digit : (old new : List ℕ) (at r more x d : ℕ) → d ≡ 48 + x → x < 10 → Wrote old at (d ∷ []) 1 r new → Wrote old at (digits more x) (more + 1) r new
+one-digit old new at r more x d e h w =
+    wrote-as old new at r (more + 1) (d ∷ []) (digits more x) (ap (λ (y : ℕ). y ∷ []) e ∙ sym (digits-one more x h))
     (record { is = w .is; on = w .on; few = omega (arith, w .few); long = w .long })
 
-pub number-two : (old mid new : List ℕ) (at p r x c d : ℕ) → c ≡ 48 + x / 10 → d ≡ 48 + x % 10 → 10 ≤ x → x < 100
-    → Wrote old at (c ∷ []) 1 p mid → Wrote mid p (d ∷ []) 1 r new → Wrote old at (decimal x) 3 r new
-number-two old mid new at p r x c d e f l h v w =
-    wrote-as old new at r 3 (c ∷ d ∷ []) (decimal x) (ap (λ (y : ℕ). y ∷ d ∷ []) e ∙ ap (λ (y : ℕ). (48 + x / 10) ∷ y ∷ []) f ∙ sym (decimal-two x l h))
-    (wrote-then old mid new at p r 1 1 3 (c ∷ []) (d ∷ []) v w (omega arith))
+pub last-digit : (old new : List ℕ) (at r more x d : ℕ) → d ≡ 48 + x % 10 → more ≡ 0 → Wrote old at (d ∷ []) 1 r new → Wrote old at (digits more x) (more + 1) r new
+last-digit old new at r more x d e z w =
+    wrote-as old new at r (more + 1) (d ∷ []) (digits more x) (ap (λ (y : ℕ). y ∷ []) e ∙ sym (ap (λ (m : ℕ). digits m x) z ∙ digits-none x))
+    (record { is = w .is; on = w .on; few = omega (arith, w .few); long = w .long })
 
-pub number-three : (old mid mid′ new : List ℕ) (at p q r x b c d : ℕ) → b ≡ 48 + x / 10 / 10 → c ≡ 48 + x / 10 % 10 → d ≡ 48 + x % 10 → 100 ≤ x → x < 1000
-    → Wrote old at (b ∷ []) 1 p mid → Wrote mid p (c ∷ []) 1 q mid′ → Wrote mid′ q (d ∷ []) 1 r new → Wrote old at (decimal x) 3 r new
-number-three old mid mid′ new at p q r x b c d e f g l h u v w =
-    wrote-as old new at r 3 (b ∷ c ∷ d ∷ []) (decimal x)
-    (ap (λ (y : ℕ). y ∷ c ∷ d ∷ []) e ∙ ap (λ (y : ℕ). (48 + x / 10 / 10) ∷ y ∷ d ∷ []) f ∙ ap (λ (y : ℕ). (48 + x / 10 / 10) ∷ (48 + x / 10 % 10) ∷ y ∷ []) g
-    ∙ sym (decimal-three x l h))
-    (wrote-then old mid new at p r 1 2 3 (b ∷ []) (c ∷ d ∷ []) u (wrote-then mid mid′ new p q r 1 1 2 (c ∷ []) (d ∷ []) v w (omega arith)) (omega arith))
+pub more-digits : (old mid new : List ℕ) (at p r more x d : ℕ) → d ≡ 48 + x % 10 → (more ≡ 0 → ⊥) → 10 ≤ x
+    → Wrote old at (digits (more - 1) (x / 10)) (more - 1 + 1) p mid → Wrote mid p (d ∷ []) 1 r new → Wrote old at (digits more x) (more + 1) r new
+more-digits old mid new at p r zero x d e ne l v w = absurd (ne refl)
+more-digits old mid new at p r (suc more) x d e ne l v w =
+    let z : suc more - 1 ≡ more = omega arith in
+    let v′ : Wrote old at (digits more (x / 10)) (more + 1) p mid = subst (λ (m : ℕ). Wrote old at (digits m (x / 10)) (m + 1) p mid) z v in
+    wrote-as old new at r (suc more + 1) (digits more (x / 10) ++ (d ∷ [])) (digits (suc more) x)
+    (ap (λ (y : ℕ). digits more (x / 10) ++ (y ∷ [])) e ∙ sym (digits-more more x l))
+    (wrote-then old mid new at p r (more + 1) 1 (suc more + 1) (digits more (x / 10)) (d ∷ []) v′ w (omega arith))
 
-pub field-of : (old mid new : List ℕ) (at p r x : ℕ) → Wrote old at (decimal x) 3 p mid → Wrote mid p (32 ∷ []) 1 r new → Wrote old at (field x) 4 r new
+pub number-of : (old new : List ℕ) (at r x : ℕ) → Wrote old at (digits 19 x) 20 r new → Wrote old at (decimal x) 20 r new
+unfolding decimal
+number-of old new at r x w = w
+
+pub labelled-of : (old mid new label : List ℕ) (at p r x : ℕ) → length label ≤ 16 → Wrote old at label (length label) p mid → Wrote mid p (decimal x) 20 r new → Wrote old at (label ++ decimal x) 36 r new
+labelled-of old mid new label at p r x h v w = wrote-then old mid new at p r (length label) 20 36 label (decimal x) v w (omega arith)
+
+pub field-of : (old mid new : List ℕ) (at p r x : ℕ) → Wrote old at (decimal x) 20 p mid → Wrote mid p (32 ∷ []) 1 r new → Wrote old at (field x) 21 r new
 unfolding field
-field-of old mid new at p r x v w = wrote-then old mid new at p r 3 1 4 (decimal x) space v w (omega arith)
+field-of old mid new at p r x v w = wrote-then old mid new at p r 20 1 21 (decimal x) space v w (omega arith)
 
 -- ---- a letter
 
@@ -113,4 +125,4 @@ pub letter-d : (k : Kind) → k ≡ change.D → 68 ≡ letter k
 unfolding letter
 letter-d k e = rw e
 
-pub ruleset texts = (wrote-in, wrote-out, copied-none, copied-more, copied-all, number-one, number-two, number-three, field-of, letter-none, letter-t, letter-s, letter-d)
+pub ruleset texts = (wrote-in, wrote-out, copied-none, copied-more, copied-all, one-digit, last-digit, more-digits, number-of, labelled-of, field-of, letter-none, letter-t, letter-s, letter-d)

@@ -3,6 +3,7 @@ use crate::seen::Seen;
 use crate::seen::detect;
 use crate::text::copy;
 use crate::text::field;
+use crate::text::labelled;
 use crate::text::letter;
 use crate::text::number;
 use crate::text::put;
@@ -19,8 +20,8 @@ ghost use Rattle.report.specs.Lines.{Ready, Pair, headOf, changeOf, tail
 
 // The detecting node, its next hop, the destination.
 fn head(text: &mut [u8], at: usize, u: u8, via: u8, t: u8) -> usize
-    requires { ⌜ at < 65536 ⌝ }
-    ensures { λ r. ⌜ Wrote (now (text .entry)) at (headOf u via t) 12 r (now (text .exit)) ⌝ }
+    requires { ⌜ at < 1048576 ⌝ }
+    ensures { λ r. ⌜ Wrote (now (text .entry)) at (headOf u via t) 63 r (now (text .exit)) ⌝ }
 {
     let second = field(text, at, u);
     let third = field(text, second, via);
@@ -29,8 +30,8 @@ fn head(text: &mut [u8], at: usize, u: u8, via: u8, t: u8) -> usize
 
 // The kind, the topology changed to, the neighbour taken.
 fn change(text: &mut [u8], at: usize, kind: Kind, topology: u8, next: u8) -> usize
-    requires { ⌜ at < 131072 ⌝ }
-    ensures { λ r. ⌜ Wrote (now (text .entry)) at (changeOf kind topology next) 10 r (now (text .exit)) ⌝ }
+    requires { ⌜ at < 2097152 ⌝ }
+    ensures { λ r. ⌜ Wrote (now (text .entry)) at (changeOf kind topology next) 44 r (now (text .exit)) ⌝ }
 {
     let space = put(text, at, letter(kind));
     let second = put(text, space, b' ');
@@ -40,8 +41,8 @@ fn change(text: &mut [u8], at: usize, kind: Kind, topology: u8, next: u8) -> usi
 
 // The hops, the extra hops, the line's end.
 fn tail(text: &mut [u8], at: usize, hops: u8, extra: u8) -> usize
-    requires { ⌜ at < 131072 ⌝ }
-    ensures { λ r. ⌜ Wrote (now (text .entry)) at (tailOf hops extra) 8 r (now (text .exit)) ⌝ }
+    requires { ⌜ at < 2097152 ⌝ }
+    ensures { λ r. ⌜ Wrote (now (text .entry)) at (tailOf hops extra) 42 r (now (text .exit)) ⌝ }
 {
     let second = field(text, at, hops);
     let end = number(text, second, extra as usize);
@@ -49,8 +50,8 @@ fn tail(text: &mut [u8], at: usize, hops: u8, extra: u8) -> usize
 }
 
 fn line(text: &mut [u8], at: usize, u: u8, t: u8, seen: Seen) -> usize
-    requires { ⌜ at < 65536 ⌝ }
-    ensures { λ r. ⌜ Wrote (now (text .entry)) at (lineOf u t seen) 30 r (now (text .exit)) ⌝ }
+    requires { ⌜ at < 1048576 ⌝ }
+    ensures { λ r. ⌜ Wrote (now (text .entry)) at (lineOf u t seen) 149 r (now (text .exit)) ⌝ }
 {
     let second = head(text, at, u, seen.via, t);
     let kind = seen.kind;
@@ -72,8 +73,8 @@ fn line_for(
 ) -> usize
     requires { ⌜ Ready (now file) net (now tables) ⌝ }
     requires { ⌜ Pair net u t ⌝ }
-    requires { ⌜ at < 65536 ⌝ }
-    ensures { λ r. ⌜ Wrote (now (text .entry)) at (lineFor (setOf (now (file .entry))) u t) 30 r (now (text .exit)) ⌝ }
+    requires { ⌜ at < 1048576 ⌝ }
+    ensures { λ r. ⌜ Wrote (now (text .entry)) at (lineFor (setOf (now (file .entry))) u t) 149 r (now (text .exit)) ⌝ }
 {
     if u == t {
         return at;
@@ -92,8 +93,8 @@ fn node_lines(
     start: usize,
 ) -> usize
     requires { ⌜ Ready (now file) net (now tables) ⌝ }
-    requires { ⌜ (u < net .n) × (start ≤ 32000) ⌝ }
-    ensures { λ r. ⌜ Wrote (now (text .entry)) start (nodeLines (setOf (now (file .entry))) u) 960 r (now (text .exit)) ⌝ }
+    requires { ⌜ (u < net .n) × (start < 524288) ⌝ }
+    ensures { λ r. ⌜ Wrote (now (text .entry)) start (nodeLines (setOf (now (file .entry))) u) 4768 r (now (text .exit)) ⌝ }
 {
     let n = net.n;
     let mut at = start;
@@ -109,7 +110,7 @@ fn node_lines(
 fn all_lines(file: &[u8], net: Network, tables: &[u8], text: &mut [u8], start: usize) -> usize
     requires { ⌜ Ready (now file) net (now tables) ⌝ }
     requires { ⌜ start ≤ 44 ⌝ }
-    ensures { λ r. ⌜ Wrote (now (text .entry)) start (detectionLines (setOf (now (file .entry)))) 30720 r (now (text .exit)) ⌝ }
+    ensures { λ r. ⌜ Wrote (now (text .entry)) start (detectionLines (setOf (now (file .entry)))) 152576 r (now (text .exit)) ⌝ }
 {
     let n = net.n;
     let mut at = start;
@@ -133,7 +134,7 @@ fn header(text: &mut [u8]) -> usize
 // How many ordered pairs of different nodes there are.
 fn detections(n: u8) -> usize
     requires { ⌜ (3 ≤ n) × (n ≤ 32) ⌝ }
-    ensures { λ r. ⌜ (r ≡ n * (n - 1)) × (r < 1000) ⌝ }
+    ensures { λ r. ⌜ r ≡ n * (n - 1) ⌝ }
 {
     let n = n as usize;
     n * (n - 1)
@@ -142,18 +143,17 @@ fn detections(n: u8) -> usize
 // The last line: how many detections there are.
 fn last_line(n: u8, text: &mut [u8], at: usize) -> usize
     requires { ⌜ (3 ≤ n) × (n ≤ 32) ⌝ }
-    requires { ⌜ at < 65536 ⌝ }
-    ensures { λ r. ⌜ Wrote (now (text .entry)) at (lastOf n) 15 r (now (text .exit)) ⌝ }
+    requires { ⌜ at < 1048576 ⌝ }
+    ensures { λ r. ⌜ Wrote (now (text .entry)) at (lastOf n) 37 r (now (text .exit)) ⌝ }
 {
-    let count = copy(text, at, b"detections ");
-    let end = number(text, count, detections(n));
+    let end = labelled(text, at, b"detections ", detections(n));
     put(text, end, b'\n')
 }
 
 // The whole text of an accepted file's report; returns its length.
 pub fn write(file: &[u8], net: Network, tables: &[u8], text: &mut [u8]) -> usize
     requires { ⌜ Ready (now file) net (now tables) ⌝ }
-    ensures { λ r. ⌜ Wrote (now (text .entry)) 0 (reportText (setOf (now (file .entry)))) 30779 r (now (text .exit)) ⌝ }
+    ensures { λ r. ⌜ Wrote (now (text .entry)) 0 (reportText (setOf (now (file .entry)))) 152657 r (now (text .exit)) ⌝ }
 {
     let first = header(text);
     let last = all_lines(file, net, tables, text, first);

@@ -2,7 +2,7 @@
 // `tables` are the file's own.
 use forwarding::hop::link_between;
 use forwarding::hop::take;
-use forwarding::order::times;
+use order::times;
 use forwarding::travel::travel;
 use housefile::byte;
 use rules::Failure;

@@ -4,9 +4,9 @@ use housefile::byte;
 use rules::Kind;
 ghost use mathlib.Core.Path.{_≡_};
 ghost use mathlib.Core.List.{List, [], _∷_, _++_};
-ghost use Prim.Native.Nat.{_+_, _<_};
+ghost use Prim.Native.Nat.{_+_, _≤_, _<_};
 ghost use lib.ListN.{length};
-ghost use Rattle.rules.specs.Report.{decimal, letter};
+ghost use Rattle.rules.specs.Report.{digits, decimal, letter};
 ghost use Rattle.report.specs.Text.{Wrote, field};
 
 // One byte.
@@ -44,27 +44,42 @@ fn digit(x: usize) -> u8
     b'0' + (x as u8)
 }
 
-// A number in decimal.
-pub fn number(text: &mut [u8], at: usize, x: usize) -> usize
-    requires { ⌜ (at < 16777216) × (x < 1000) ⌝ }
-    ensures { λ r. ⌜ Wrote (now (text .entry)) at (decimal x) 3 r (now (text .exit)) ⌝ }
+// The digits of x: the last `more` and one before them, at most.
+fn digits(text: &mut [u8], at: usize, x: usize, more: u8) -> usize
+    requires { ⌜ (at < 16777216) × (more < 20) ⌝ }
+    ensures { λ r. ⌜ Wrote (now (text .entry)) at (digits more x) (more + 1) r (now (text .exit)) ⌝ }
 {
+    if more == 0 {
+        return put(text, at, digit(x % 10));
+    }
     if x < 10 {
         return put(text, at, digit(x));
     }
-    if x < 100 {
-        let ones = put(text, at, digit(x / 10));
-        return put(text, ones, digit(x % 10));
-    }
-    let tens = put(text, at, digit(x / 10 / 10));
-    let ones = put(text, tens, digit(x / 10 % 10));
-    put(text, ones, digit(x % 10))
+    let last = digits(text, at, x / 10, more - 1);
+    put(text, last, digit(x % 10))
+}
+
+// A number in decimal.
+pub fn number(text: &mut [u8], at: usize, x: usize) -> usize
+    requires { ⌜ at < 16777216 ⌝ }
+    ensures { λ r. ⌜ Wrote (now (text .entry)) at (decimal x) 20 r (now (text .exit)) ⌝ }
+{
+    digits(text, at, x, 19)
+}
+
+// A number after its label.
+pub fn labelled(text: &mut [u8], at: usize, label: &[u8], x: usize) -> usize
+    requires { ⌜ (at < 8388608) × (length (now label) ≤ 16) ⌝ }
+    ensures { λ r. ⌜ Wrote (now (text .entry)) at (now (label .entry) ++ decimal x) 36 r (now (text .exit)) ⌝ }
+{
+    let after = copy(text, at, label);
+    number(text, after, x)
 }
 
 // A number and the space after it.
 pub fn field(text: &mut [u8], at: usize, x: u8) -> usize
     requires { ⌜ at < 8388608 ⌝ }
-    ensures { λ r. ⌜ Wrote (now (text .entry)) at (field x) 4 r (now (text .exit)) ⌝ }
+    ensures { λ r. ⌜ Wrote (now (text .entry)) at (field x) 21 r (now (text .exit)) ⌝ }
 {
     let after = number(text, at, x as usize);
     put(text, after, b' ')

@@ -25,12 +25,12 @@ use Rattle.rules.proofs.Lines.{lines-are-runs}
 
 -- ---- decimal
 
-digits-one : (more x : ℕ) → x < 10 → digits more x ≡ (48 + x) ∷ []
+pub digits-one : (more x : ℕ) → x < 10 → digits more x ≡ (48 + x) ∷ []
 unfolding digits
 digits-one zero x h = ap (λ (y : ℕ). (48 + y) ∷ []) (mod-eq-of-lt h)
 digits-one (suc more) x h = if-yes (ltb x 10) ((48 + x) ∷ []) (digits more (x / 10) ++ ((48 + x % 10) ∷ [])) (lt-ltb x 10 h)
 
-digits-more : (more x : ℕ) → 10 ≤ x → digits (suc more) x ≡ digits more (x / 10) ++ ((48 + x % 10) ∷ [])
+pub digits-more : (more x : ℕ) → 10 ≤ x → digits (suc more) x ≡ digits more (x / 10) ++ ((48 + x % 10) ∷ [])
 unfolding digits
 digits-more more x h = if-no (ltb x 10) ((48 + x) ∷ []) (digits more (x / 10) ++ ((48 + x % 10) ∷ [])) (le-ltb x 10 h)
 

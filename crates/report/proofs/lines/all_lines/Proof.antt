@@ -12,7 +12,7 @@ use Rattle.report.proofs.lines.all_lines.Lts as lts
 use Rattle.report.proofs.lines.node_lines.Reads as node-lines-reads
 
 abbrev Inv-loop : tie.InvT-loop
-Inv-loop file net tables text₀ start n at₀ u₀ text at u = (u ≤ net .n) × Wrote text₀ start (flat (nodeLines (setOf file)) u) (960 * u) at text
+Inv-loop file net tables text₀ start n at₀ u₀ text at u = (u ≤ net .n) × Wrote text₀ start (flat (nodeLines (setOf file)) u) (4768 * u) at text
 
 abbrev μ-loop : tie.MeasureT-loop
 μ-loop file net tables text₀ start n at₀ u₀ text at u = net .n - u

@@ -5,35 +5,30 @@ use Rattle.report.proofs.lines.last_line.Tie as tie
 use Rattle.report.proofs.lines.last_line.Reads as reads
 use Rattle.report.proofs.lines.last_line.Lts as lts
 use Rattle.report.proofs.lines.detections.Reads as detections-reads
-use Rattle.report.proofs.text.copy.Reads as copy-reads
-use Rattle.report.proofs.text.number.Reads as number-reads
+use Rattle.report.proofs.text.labelled.Reads as labelled-reads
 use Rattle.report.proofs.text.put.Reads as put-reads
 
--- src/lines.rt:148:32
-slice-aggregate-copy : tie.Need-slice-aggregate-copy
-slice-aggregate-copy c = search needs
+-- src/lines.rt:149:34
+slice-aggregate-labelled : tie.Need-slice-aggregate-labelled
+slice-aggregate-labelled c = search needs
 
--- src/lines.rt:148:9
-copy-requires : tie.Need-copy-requires
-copy-requires c κs = search needs
-
--- src/lines.rt:149:35
+-- src/lines.rt:149:50
 detections-requires : tie.Need-detections-requires
 detections-requires c κs = search needs
 
 -- src/lines.rt:149:9
-number-requires : tie.Need-number-requires
-number-requires c κs = search needs
+labelled-requires : tie.Need-labelled-requires
+labelled-requires c κs = search needs
 
 -- src/lines.rt:150:5
 put-requires : tie.Need-put-requires
 put-requires c κs = search needs
 
--- src/lines.rt:143:1
+-- src/lines.rt:144:1
 same-length : tie.Need-same-length
 same-length c = search needs
 
--- src/lines.rt:143:1
+-- src/lines.rt:144:1
 returns : tie.Need-returns
 returns c = search wholes
 
@@ -41,10 +36,9 @@ pub last-line-spec : {M : Type 1} → statement M
 last-line-spec =
     tie.close
     (tie.spec
-    slice-aggregate-copy
-    copy-requires
+    slice-aggregate-labelled
     detections-requires
-    number-requires
+    labelled-requires
     put-requires
     same-length
     returns)

@@ -12,7 +12,7 @@ use Rattle.report.proofs.lines.node_lines.Lts as lts
 use Rattle.report.proofs.lines.line_for.Reads as line-for-reads
 
 abbrev Inv-loop : tie.InvT-loop
-Inv-loop file net tables u text₀ start n at₀ t₀ text at t = (t ≤ net .n) × Wrote text₀ start (flat (lineFor (setOf file) u) t) (30 * t) at text
+Inv-loop file net tables u text₀ start n at₀ t₀ text at t = (t ≤ net .n) × Wrote text₀ start (flat (lineFor (setOf file) u) t) (149 * t) at text
 
 abbrev μ-loop : tie.MeasureT-loop
 μ-loop file net tables u text₀ start n at₀ t₀ text at t = net .n - t
