@@ -18,6 +18,7 @@ use Rattle.rules.specs.Judgement.{judge}
 use Rattle.rules.proofs.Choices.{and-of, and-left, and-right, or-left, or-right, or-cases, clash, false-of, same-test}
 use Rattle.rules.proofs.Numbers.{any-at, any-of, any-ext, lowest-found, lowest-none}
 use Rattle.rules.proofs.Rows.{getD-upTo}
+use Rattle.rules.proofs.Removal.{homeless-at}
 use Rattle.rules.proofs.Held.{homes-all}
 use Rattle.rules.proofs.Records.{FileMeets, file-meets}
 use Rattle.words.specs.Word.{has, adding}
@@ -99,19 +100,14 @@ neighbours-any S u w = go (any (λ l. joins S l u w) (S .net .m)) refl
         let z = lowest-none (λ l. joins S l u w) (S .net .m) (S .net .m) (λ l h. false-of (joins S l u w) (λ q. clash (any (λ l. joins S l u w) (S .net .m)) (any-of (λ l. joins S l u w) (S .net .m) l h q) e)) in
         le-ltb _ (S .net .m) (omega (arith, z)) ∙ sym e
 
-zeros-at : (n u : ℕ) → u < n → _≡_ {A = ℕ} (getD (replicate n 0) u 0) 0
-zeros-at zero u h = absurd (omega arith)
-zeros-at (suc n) zero h = refl
-zeros-at (suc n) (suc u) h = zeros-at n u (omega arith)
-
-pub words-of : (s : List ℕ) → headerOf s .n ≤ 32 → WordsOf (setOf s) (neighbourWords s)
+pub words-of : (s : List ℕ) → headerOf s .n ≤ 32 → WordsOf (setOf s) (neighbourWords s (headerOf s .m))
 unfolding neighbourWords setOf joins
 words-of s few =
     record {
       few = few;
       each = λ u w l.
           has-linked (endA s) (endB s) (replicate 32 0) u w (headerOf s .m) (let e = length-replicate {A = ℕ} 32 0 in omega arith)
-          ∙ ap (λ (t : Bool). t || any (between (endA s) (endB s) u w) (headerOf s .m)) (ap (λ (x : ℕ). has x w) (zeros-at 32 u l) ∙ has-none w)
+          ∙ ap (λ (t : Bool). t || any (between (endA s) (endB s) u w) (headerOf s .m)) (ap (λ (x : ℕ). has x w) (homeless-at 32 u) ∙ has-none w)
           ∙ any-ext (between (endA s) (endB s) u w) (λ k. joins (setOf s) k u w) (headerOf s .m)
           (λ k h. ap₂ (λ (x y : ℕ). (eqb x u && eqb y w) || (eqb x w && eqb y u)) (sym (getD-upTo (endA s) (headerOf s .m) k 0 h)) (sym (getD-upTo (endB s) (headerOf s .m) k 0 h)))
           ∙ sym (neighbours-any (setOf s) u w);
@@ -119,10 +115,10 @@ words-of s few =
 
 -- ---- isolated nodes
 
-pub isolated-word-is : (s : List ℕ) (i : ℕ) → 1 ≤ headerOf s .k → 1 ≤ i → word (homeIs s i) (headerOf s .n) ≡ isolatedWord (setOf s) i
+pub isolated-word-is : (s : List ℕ) (i : ℕ) → 1 ≤ headerOf s .k → 1 ≤ i → word (homeIs s (headerOf s) i) (headerOf s .n) ≡ isolatedWord (setOf s) i
 unfolding homeIs isolatedWord isolated home setOf
 isolated-word-is s i hk hi =
-    word-ext (homeIs s i) (isolated (setOf s) i) (headerOf s .n)
+    word-ext (homeIs s (headerOf s) i) (isolated (setOf s) i) (headerOf s .n)
     (λ v l. ap₂ (λ (p : Bool) (x : ℕ). p && eqb x i) (sym (le-leb 1 i hi)) (sym (getD-upTo (homeTopology s (headerOf s)) (homeRecords (headerOf s)) v 0 (let e = homes-all (headerOf s) hk in omega arith))))
 
 -- ---- an accepted file
@@ -135,3 +131,6 @@ accepted-ends s e =
 
 pub accepted-few : (s : List ℕ) → judge s ≡ Accepted → headerOf s .n ≤ 32
 accepted-few s e = file-meets s e .header .limits .nodes .1
+
+pub accepted-some : (s : List ℕ) → judge s ≡ Accepted → 3 ≤ headerOf s .n
+accepted-some s e = file-meets s e .header .limits .nodes .0

@@ -143,9 +143,9 @@ unfolding connectedBy
 part-full nb bb r w ne er ew = rw (ne-eqb bb 0 ne, ew, er)
 
 -- ---- served, enough
-pub served-in : (nb : List ℕ) (iso bb v y m : ℕ) (i t : Bool) → i ≡ has iso v → i ≡ true → y ≡ getD nb v 0 → m ≡ both y bb → t ≡ leb 2 (ones m) → t ≡ servedBy nb iso bb v
+pub served-in : (nb : List ℕ) (iso bb v y m c : ℕ) (i : Bool) → i ≡ has iso v → i ≡ true → y ≡ getD nb v 0 → m ≡ both y bb → c ≡ ones m → leb 2 c ≡ servedBy nb iso bb v
 unfolding servedBy
-served-in nb iso bb v y m i t ei p ey em et = et ∙ rw (← ei, p, em, ey)
+served-in nb iso bb v y m c i ei p ey em ec = rw (← ei, p, ec, em, ey)
 
 pub served-out : (nb : List ℕ) (iso bb v : ℕ) (i : Bool) → i ≡ has iso v → i ≡ false → true ≡ servedBy nb iso bb v
 unfolding servedBy

@@ -3,3 +3,4 @@ pub mod Reached
 pub mod Same
 pub mod Graph
 pub mod Laws
+pub mod Files

@@ -5,8 +5,7 @@ use Prim.Native.Nat.{ℕ, zero, suc, _<_}
 use lib.Dec.{eqb}
 use lib.ListN.{getD, set, replicate}
 use Rattle.rules.specs.declared.Network.{Network}
-use Rattle.rules.specs.File.{headerOf, endA, endB, homeTopology}
-use Rattle.rules.specs.Isolation.{word}
+use Rattle.rules.specs.File.{endA, endB, homeTopology}
 use Rattle.words.specs.Word.{adding}
 
 -- y comes into x's word
@@ -18,13 +17,13 @@ unfoldable pub linked : (ℕ → ℕ) → (ℕ → ℕ) → List ℕ → ℕ →
 linked A B nb zero = nb
 linked A B nb (suc l) = entered (entered (linked A B nb l) (A l) (B l)) (B l) (A l)
 
--- every node's neighbour word
-unfoldable pub neighbourWords : List ℕ → List ℕ
-neighbourWords s = linked (endA s) (endB s) (replicate 32 0) (headerOf s .m)
+-- every node's neighbour word, by the first m links
+unfoldable pub neighbourWords : List ℕ → ℕ → List ℕ
+neighbourWords s m = linked (endA s) (endB s) (replicate 32 0) m
 
 -- node v's home is i
-unfoldable pub homeIs : List ℕ → ℕ → ℕ → Bool
-homeIs s i v = eqb (homeTopology s (headerOf s) v) i
+unfoldable pub homeIs : List ℕ → Network → ℕ → ℕ → Bool
+homeIs s h i v = eqb (homeTopology s h v) i
 
 -- the ends of the first m links are nodes below 32
 pub record Ends (s : List ℕ) (m : ℕ) : Type 0 where

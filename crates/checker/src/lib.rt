@@ -2,6 +2,13 @@
 // where a word that grows from its lowest node covers it, and an isolated node is served where its neighbour word, masked by
 // the backbone word, has two ones or more. `check` promises 01's verdict on any bytes: refusals 1 to 6, 13, then 7 and 8 by
 // topology.
+use housefile::end_a;
+use housefile::end_b;
+use housefile::header;
+use housefile::home_topology;
+use housefile::judge;
+use rules::Network;
+use rules::Verdict;
 use words::adding;
 use words::both;
 use words::either;
@@ -11,13 +18,18 @@ use words::lowest;
 use words::minus;
 use words::only;
 use words::put;
-use words::two;
+use words::size;
 ghost use mathlib.Core.Path.{_≡_};
 ghost use mathlib.Core.Bool.{true};
-ghost use Prim.Native.Nat.{ℕ, _+_, _<_, _≤_};
-ghost use lib.ListN.{length, getD};
+ghost use Prim.Native.Nat.{_<_, _≤_};
+ghost use lib.ListN.{getD};
+ghost use Rattle.rules.specs.declared.Verdict.the-variants.{Accepted};
+ghost use Rattle.rules.specs.File.{headerOf, setOf};
+ghost use Rattle.rules.specs.Isolation.{word};
+ghost use Rattle.rules.specs.Judgement.{judge, needSet, topologies, andThen, check};
+ghost use Rattle.rules.specs.Entries.{Promise, checkEntry};
 ghost use Rattle.words.specs.Word.{has};
-ghost use Rattle.checker.specs.Graph.{entered};
+ghost use Rattle.checker.specs.Graph.{entered, neighbourWords, homeIs, Ends};
 ghost use Rattle.checker.specs.Topology.{backboneWord, reachedWord, connectedBy, servedBy, allServed, numberBy};
 
 // ---- a topology, by words
@@ -73,7 +85,7 @@ fn served(nb: &[u32], iso: u32, bb: u32, v: u8) -> bool
     ensures { λ r. ⌜ r ≡ servedBy (now (nb .entry)) iso bb v ⌝ }
 {
     if has(iso, v) {
-        return two(both(word_at(nb, v), bb));
+        return size(both(word_at(nb, v), bb)) >= 2;
     }
     true
 }
@@ -114,7 +126,7 @@ pub fn topology_number(nb: &[u32], n: u8, iso: u32) -> u8
 // ---- words from a file's bytes
 
 // y comes into x's word.
-fn enter(nb: &mut [u32; 32], x: u8, y: u8)
+pub fn enter(nb: &mut [u32; 32], x: u8, y: u8)
     requires { ⌜ x < 32 ⌝ }
     requires { ⌜ y < 32 ⌝ }
     ensures { λ _. ⌜ now (nb .exit) ≡ entered (now (nb .entry)) x y ⌝ }
@@ -122,4 +134,98 @@ fn enter(nb: &mut [u32; 32], x: u8, y: u8)
     let at = x as usize;
     let w = adding(nb[at], y);
     nb[at] = w;
+}
+
+// Every node's neighbour word: each link is entered at both its ends.
+pub fn neighbour_words(file: &[u8], m: u16) -> [u32; 32]
+    requires { ⌜ Ends (now file) m ⌝ }
+    ensures { λ r. ⌜ r ≡ neighbourWords (now (file .entry)) m ⌝ }
+{
+    let mut nb = [0u32; 32];
+    let mut l: u16 = 0;
+    while l < m {
+        let a = end_a(file, l as usize);
+        let b = end_b(file, l as usize);
+        enter(&mut nb, a, b);
+        enter(&mut nb, b, a);
+        l += 1;
+    }
+    nb
+}
+
+// The nodes whose home is topology i.
+pub fn isolated_word(file: &[u8], net: Network, i: u8) -> u32
+    requires { ⌜ net .n ≤ 32 ⌝ }
+    ensures { λ r. ⌜ r ≡ word (homeIs (now (file .entry)) net i) (net .n) ⌝ }
+{
+    let mut w = 0u32;
+    let mut v: u8 = 0;
+    while v < net.n {
+        let home = home_topology(file, net, v as usize);
+        w = put(home == i, w, v);
+        v += 1;
+    }
+    w
+}
+
+// ---- the check
+
+// The topologies of a set in turn, by its neighbour words.
+fn in_turn(file: &[u8], net: Network, nb: &[u32]) -> Verdict
+    requires { ⌜ judge (now file) ≡ Accepted ⌝ }
+    requires { ⌜ net ≡ headerOf (now file) ⌝ }
+    requires { ⌜ now nb ≡ neighbourWords (now file) (net .m) ⌝ }
+    requires { ⌜ 1 ≤ net .k ⌝ }
+    ensures { λ r. ⌜ r ≡ topologies (setOf (now (file .entry))) ⌝ }
+{
+    let mut j: u8 = 0;
+    while j < net.k {
+        let i = j + 1;
+        let number = topology_number(nb, net.n, isolated_word(file, net, i));
+        if number != 0 {
+            return Verdict::Refused {
+                number,
+                place: i as usize,
+            };
+        }
+        j += 1;
+    }
+    Verdict::Accepted
+}
+
+// A file that the judge accepts: a set is needed, then its topologies in turn.
+fn set_verdict(file: &[u8]) -> Verdict
+    requires { ⌜ judge (now file) ≡ Accepted ⌝ }
+    ensures { λ r. ⌜ r ≡ andThen (needSet (headerOf (now (file .entry)))) (topologies (setOf (now (file .entry)))) ⌝ }
+{
+    let net = header(file);
+    if net.k == 0 {
+        return Verdict::Refused {
+            number: 13,
+            place: 0,
+        };
+    }
+    let nb = neighbour_words(file, net.m);
+    in_turn(file, net, &nb)
+}
+
+// 01's verdict on a set's bytes.
+pub fn verdict(file: &[u8]) -> Verdict
+    ensures { λ r. ⌜ r ≡ check (now (file .entry)) ⌝ }
+{
+    let v = judge(file);
+    match v {
+        Verdict::Accepted => set_verdict(file),
+        Verdict::Refused {
+            number: _,
+            place: _,
+        } => v,
+    }
+}
+
+// The entry.
+pub fn check(file: &[u8]) -> Verdict
+    ensures { λ r. ⌜ Promise checkEntry (now (file .entry)) tt r tt ⌝ }
+{
+    verdict(file)
 }

@@ -4,7 +4,6 @@ use mathlib.Core.Bool.{Bool, true, false, not, _&&_, _||_}
 use mathlib.Core.List.{List}
 use Prim.Native.Nat.{ℕ, zero, suc, _+_, _*_, _≤_, _<_}
 use native.Mathlib.Numerals.{add-one}
-use native.Mathlib.Nat.{mul-le-mul}
 use native.Mathlib.Omega.{arith}
 use lib.Dec.{eqb, ltb}
 use lib.ListN.{length, getD, List·getD-eq-default}
@@ -34,24 +33,6 @@ neither-first v u w e = rw (eq-eqb v u e)
 
 pub neither-second : (v u w : ℕ) → (v ≡ u → ⊥) → not (eqb v w) ≡ not (eqb v u || eqb v w)
 neither-second v u w e = rw (ne-eqb v u e)
-
--- ---- products
-
-pub small-product : (x y : ℕ) → x < 65536 → y < 65536 → x * y < 4294967296
-small-product x y p q =
-    let h : x * y ≤ 65535 * 65535 = mul-le-mul {n₂ = 65535} {m₂ = 65535} (omega arith) (omega arith) in
-    omega arith
-
-pub byte-square : (n : ℕ) → n < 256 → n * n < 65536
-byte-square n p =
-    let h : n * n ≤ 255 * 255 = mul-le-mul {n₂ = 255} {m₂ = 255} (omega arith) (omega arith) in
-    omega arith
-
-pub product-fits : (x y : ℕ) → x < 65536 → y < 65536 → x * y < 18446744073709551616
-product-fits x y p q = omega (arith, small-product x y p q)
-
-pub bytes-fit : (x y : ℕ) → x < 256 → y < 256 → x * y < 18446744073709551616
-bytes-fit x y p q = product-fits x y (omega arith) (omega arith)
 
 -- ---- links
 
@@ -137,4 +118,4 @@ module _ (s : List ℕ) where
   unfolding up faultOf
   up-node f u w v t e d = rw e d
 
-pub ruleset graph = (pair-yes, pair-no, neither-first, neither-second, small-product, byte-square, product-fits, bytes-fit, joins-forth, joins-back, sought-none, sought-more, sought-found, sought-out, near-is, home-is, home-none, up-nothing, up-link, up-node)
+pub ruleset graph = (pair-yes, pair-no, neither-first, neither-second, joins-forth, joins-back, sought-none, sought-more, sought-found, sought-out, near-is, home-is, home-none, up-nothing, up-link, up-node)

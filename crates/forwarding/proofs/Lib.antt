@@ -1,4 +1,5 @@
 pub mod Graph
 pub mod Hops
-pub mod Orders
+pub mod Stepping
 pub mod Trips
+pub mod Running

@@ -6,7 +6,7 @@ use Prim.Native.Nat.{ℕ, zero, suc, _+_, _-_, _≤_, _<_}
 use native.Mathlib.Numerals.{add-one}
 use native.Mathlib.Omega.{arith}
 use lib.ListN.{length, drop, set, length-append, length-set}
-use lib.Seq.{set-at, set-out, drop-cons}
+use lib.Seq.{set-out}
 use Rattle.rules.specs.declared.Packet.{Packet}
 use Rattle.rules.specs.declared.Failure.{Failure}
 use Rattle.rules.specs.declared.Journey.{Journey}
@@ -18,6 +18,7 @@ use Rattle.rules.specs.declared.Outcome.{Outcome}
 use Rattle.rules.specs.declared.Outcome.the-variants as ended
 use Rattle.rules.specs.Basics.{laid}
 use Rattle.rules.specs.Forwarding.{Run, hops, trail, stop, firstKind, onward, afterStep, run}
+use Rattle.rules.proofs.Rows.{laid-more}
 use Rattle.forwarding.specs.Hop.{stepAt}
 use Rattle.forwarding.specs.Trip.{runAt, journeyOf, RunsAs, Begun, Visited}
 
@@ -54,15 +55,6 @@ kind-then change.S next last = refl
 kind-then change.D next last = refl
 
 -- ---- the trail
-
--- one node more at the end of what is written
-laid-more : (new old : List ℕ) (v : ℕ) → length new < length old → set (laid new old) (length new) v ≡ laid (new ++ (v ∷ [])) old
-unfolding laid
-laid-more new old v h =
-    ap (λ (l : List ℕ). set (new ++ l) (length new) v) (drop-cons old (length new) 0 h)
-    ∙ set-at new _ (drop (suc (length new)) old) v (length new) refl
-    ∙ sym (append-assoc new (v ∷ []) (drop (length (new ++ (v ∷ []))) old)
-    ∙ ap (λ (k : ℕ). new ++ (v ∷ drop k old)) (length-append new (v ∷ []) ∙ add-one (length new)))
 
 laid-first : (old : List ℕ) (v : ℕ) → 0 < length old → set old 0 v ≡ laid (v ∷ []) (set old 0 v)
 unfolding laid

@@ -2,17 +2,16 @@
 use mathlib.Core.Bool.{Bool, not, _&&_, _||_}
 use mathlib.Core.List.{List}
 use Prim.Native.Nat.{ℕ}
-use lib.Dec.{eqb, ltb, leb}
+use lib.Dec.{eqb}
 use Rattle.rules.specs.declared.Packet.{Packet}
 use Rattle.rules.specs.declared.Failure.{Failure}
 use Rattle.rules.specs.declared.Kind.{Kind}
 use Rattle.rules.specs.declared.Kind.the-variants as change
 use Rattle.rules.specs.declared.Step.{Step}
-use Rattle.rules.specs.declared.Network.{Network}
 use Rattle.rules.specs.declared.Verdict.{Verdict}
-use Rattle.rules.specs.Basics.{if_then_else_, need}
+use Rattle.rules.specs.Basics.{if_then_else_}
 use Rattle.rules.specs.Limits.{tablesLength}
-use Rattle.rules.specs.Judgement.{refuse, andThen, judge, needSet, needFailure, needPacket, needSource, needRoom}
+use Rattle.rules.specs.Judgement.{refuse, andThen, judge, needSet, needPacket, needSource, needRoom}
 use Rattle.rules.specs.Entries.{StepInput}
 use Rattle.rules.specs.File.{headerOf, setOf, endA, endB}
 use Rattle.rules.specs.Isolation.{home}
@@ -49,13 +48,6 @@ lookupAt s tables f p = lookupNumber (setOf s) (tablesAt s tables) (on s f) p
 
 abbrev pub stepInput : List ℕ → List ℕ → Packet → Failure → StepInput
 stepInput s tables p f = record { file = s; tables = tables; packet = p; failure = f }
-
-unfoldable pub packetNumber : Network → Packet → Failure → ℕ
-packetNumber h p f =
-    need (ltb (p .place) (h .n)) 11
-    (need (ltb (p .destination) (h .n)) 11
-    (need (leb (p .topology) (h .k)) 11
-    (needFailure h f 0)))
 
 unfoldable pub stepRest : StepInput → Verdict
 stepRest i =

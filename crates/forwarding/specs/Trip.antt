@@ -1,14 +1,22 @@
 -- A run by lent tables, and what it answers and writes.
 use mathlib.Core.Path.{_≡_}
 use mathlib.Core.List.{List, [], _∷_}
-use Prim.Native.Nat.{ℕ, _<_}
+use Prim.Native.Nat.{ℕ, _≤_, _<_}
+use lib.Dec.{leb}
 use lib.ListN.{length, set}
 use Rattle.rules.specs.declared.Packet.{Packet}
 use Rattle.rules.specs.declared.Failure.{Failure}
 use Rattle.rules.specs.declared.Journey.{Journey}
-use Rattle.rules.specs.Basics.{laid}
-use Rattle.rules.specs.File.{setOf}
-use Rattle.rules.specs.Forwarding.{Run, hops, trail, run}
+use Rattle.rules.specs.declared.Verdict.{Verdict}
+use Rattle.rules.specs.declared.Verdict.the-variants.{Accepted}
+use Rattle.rules.specs.Basics.{need, laid}
+use Rattle.rules.specs.Limits.{tablesLength, trailRoom}
+use Rattle.rules.specs.File.{headerOf, setOf}
+use Rattle.rules.specs.Distance.{tableBytes}
+use Rattle.rules.specs.Forwarding.{Run, faultOf, packet, hops, trail, run}
+use Rattle.rules.specs.Judgement.{refuse, andThen, check, needPacket, needSource}
+use Rattle.rules.specs.Report.{runUnder}
+use Rattle.rules.specs.Entries.{RunInput, RunLent}
 use Rattle.forwarding.specs.Hop.{on, tablesAt}
 
 unfoldable pub runAt : List ℕ → List ℕ → Failure → ℕ → Packet → Run
@@ -31,3 +39,34 @@ pub record Begun (start : Packet) (most : ℕ) (t : List ℕ) : Type 0 where
 pub record Visited (t : List ℕ) (at v : ℕ) (t′ : List ℕ) : Type 0 where
   pub is : t′ ≡ set t at v
   pub long : length t′ ≡ length t
+
+-- ---- the entry `run`
+
+abbrev pub runInput : List ℕ → ℕ → ℕ → Failure → RunInput
+runInput s u t f = record { file = s; source = u; destination = t; failure = f }
+
+abbrev pub runLent : List ℕ → List ℕ → RunLent
+runLent tables trail = record { tables = tables; trail = trail }
+
+unfoldable pub runVerdict : RunInput → ℕ → ℕ → Verdict
+runVerdict i tables trail =
+    andThen (check (i .file))
+    (andThen (needPacket (headerOf (i .file)) (packet (i .source) (i .destination) 0) (i .failure))
+    (andThen (needSource (i .source) (i .failure))
+    (andThen (refuse (need (leb (tablesLength (headerOf (i .file))) tables) 14 0) 0)
+    (refuse (need (leb (trailRoom (headerOf (i .file))) trail) 14 0) 0))))
+
+-- an accepted set, a packet within it at the start of its run, and room for tables and trail
+pub record Ready (s : List ℕ) (start : Packet) (tables nodes : List ℕ) : Type 0 where
+  pub set : check s ≡ Accepted
+  pub node : start .place < headerOf s .n
+  pub end : start .destination < headerOf s .n
+  pub first : start .topology ≡ 0
+  pub tables : tablesLength (headerOf s) ≤ length tables
+  pub trail : trailRoom (headerOf s) ≤ length nodes
+
+-- the answer, the tables and the trail are those of the run
+pub record Ran (s : List ℕ) (start : Packet) (f : Failure) (before : RunLent) (r : Journey) (after : RunLent) : Type 0 where
+  pub answer : r ≡ journeyOf (runUnder (setOf s) (faultOf f) (start .place) (start .destination))
+  pub tables : after .tables ≡ laid (tableBytes (setOf s)) (before .tables)
+  pub trail : after .trail ≡ laid (trail (start .place) (runUnder (setOf s) (faultOf f) (start .place) (start .destination))) (before .trail)

@@ -1,6 +1,6 @@
 // One hop of a packet by value, in the order of 01's rule. `net` is the header of `file`, and `tables` are read as they are.
-use crate::order::square;
-use crate::order::times;
+use order::square;
+use order::times;
 use housefile::byte;
 use housefile::end_a;
 use housefile::end_b;

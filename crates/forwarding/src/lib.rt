@@ -2,13 +2,13 @@
 // a source to a destination under one failure, by the tables that it makes itself. The entries `step` and `run` take every
 // input; their promises fix the answer, every byte of the trail and every byte of the tables.
 pub mod hop; // hop.rt: one hop by value
-pub mod order; // order.rt: refusals 11 to 14, each as a verdict
 pub mod travel; // travel.rt: the run by lent tables
 
 use hop::lookup_number;
 use hop::take;
 use housefile::header;
 use housefile::judge;
+use order::most_hops;
 use order::need_packet;
 use order::need_room;
 use order::need_set;
@@ -16,14 +16,19 @@ use order::need_source;
 use order::refuse;
 use order::tables_length;
 use order::then;
+use order::trail_room;
 use rules::Failure;
+use rules::Journey;
 use rules::Network;
 use rules::Packet;
+use rules::RunAnswer;
 use rules::StepAnswer;
 use rules::Verdict;
+use travel::travel;
 ghost use mathlib.Core.Path.{_≡_};
 ghost use Rattle.rules.specs.File.{headerOf};
-ghost use Rattle.rules.specs.Entries.{Promise, stepEntry};
+ghost use Rattle.rules.specs.Entries.{Promise, stepEntry, runEntry};
+ghost use Rattle.forwarding.specs.Trip.{runInput, runLent, runVerdict, Ready, Ran};
 ghost use Rattle.forwarding.specs.Hop.{stepInput, stepRest, stepVerdict};
 
 // ---- step
@@ -63,5 +68,82 @@ pub fn step(file: &[u8], tables: &[u8], packet: Packet, failure: Failure) -> Ste
     match v {
         Verdict::Accepted => StepAnswer::Taken(take(file, header(file), tables, failure, packet)),
         Verdict::Refused { number, place } => StepAnswer::Refused { number, place },
+    }
+}
+
+// ---- run
+
+fn run_verdict(
+    file: &[u8],
+    source: u8,
+    destination: u8,
+    failure: Failure,
+    tables: usize,
+    trail: usize,
+) -> Verdict
+    ensures { λ r. ⌜ r ≡ runVerdict (runInput (now (file .entry)) source destination failure) tables trail ⌝ }
+{
+    let net = header(file);
+    let set = checker::verdict(file);
+    let start = Packet {
+        place: source,
+        destination,
+        topology: 0,
+    };
+    let range = need_packet(net, start, failure);
+    let from = need_source(source, failure);
+    let room = need_room(tables_length(net), tables);
+    let nodes = need_room(trail_room(net), trail);
+    then(set, then(range, then(from, then(room, nodes))))
+}
+
+// The run of an accepted call: the tables are made in the lent room, and then the packet travels by them.
+fn run_in(
+    file: &[u8],
+    net: Network,
+    start: Packet,
+    failure: Failure,
+    tables: &mut [u8],
+    trail: &mut [u8],
+) -> Journey
+    requires { ⌜ net ≡ headerOf (now file) ⌝ }
+    requires { ⌜ Ready (now file) start (now tables) (now trail) ⌝ }
+    ensures { λ r. ⌜ Ran (now (file .entry)) start failure (runLent (now (tables .entry)) (now (trail .entry))) r (runLent (now (tables .exit)) (now (trail .exit))) ⌝ }
+{
+    let long = tables_length(net);
+    filetables::fill(file, net, &mut tables[..long]);
+    travel(file, net, tables, failure, start, most_hops(net), trail)
+}
+
+// A packet's run from a source to its destination, with something down or nothing.
+pub fn run(
+    file: &[u8],
+    source: u8,
+    destination: u8,
+    failure: Failure,
+    tables: &mut [u8],
+    trail: &mut [u8],
+) -> RunAnswer
+    ensures { λ r. ⌜ Promise runEntry (runInput (now (file .entry)) source destination failure) (runLent (now (tables .entry)) (now (trail .entry))) r (runLent (now (tables .exit)) (now (trail .exit))) ⌝ }
+{
+    let v = run_verdict(
+        file,
+        source,
+        destination,
+        failure,
+        tables.len(),
+        trail.len(),
+    );
+    match v {
+        Verdict::Accepted => {
+            let start = Packet {
+                place: source,
+                destination,
+                topology: 0,
+            };
+            let j = run_in(file, header(file), start, failure, tables, trail);
+            RunAnswer::Ended(j)
+        }
+        Verdict::Refused { number, place } => RunAnswer::Refused { number, place },
     }
 }

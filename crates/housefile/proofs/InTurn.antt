@@ -17,15 +17,28 @@ use Rattle.rules.specs.Limits.{needCounts, linkPlace, homePlace, rowPlace, file
 use Rattle.rules.specs.File.{headerOf, endA, endB, linkWeight, homeNode, homeTopology, rowTopology, rowWeight}
 use Rattle.rules.specs.Isolation.{classBy, weightFits}
 use Rattle.rules.specs.Judgement.{refuse, inTurn, needMark, headerNumber, after, rises, linkNumber, homeNumber, rowWeightFits, rowNumber, records, judge}
-use Rattle.rules.proofs.Choices.{and-of, and-left, and-right, or-left, or-right, or-cases, same-test, false-of, clash, need-yes, need-no, need-le, need-ok, refuse-ok, refuse-no, then-ok, then-no, then-on, then-stop, turn-more, turn-refuse}
+use Rattle.rules.proofs.Choices.{and-of, and-left, and-right, or-left, or-right, or-cases, same-test, false-of, clash, need-yes, need-no, need-le, need-ok, refuse-ok, refuse-no, then-ok, then-no, then-on, then-stop, turn-more, turn-stop, turn-done}
 use Rattle.rules.proofs.Numbers.{all-at}
-use Rattle.housefile.specs.Rules.{headerRule, linkRule, homeRule, rowRule, weightRule, linkVerdict, homeVerdict, rowVerdict, homesThenRows, rankBefore, lowBefore}
+use Rattle.housefile.specs.Rules.{headerRule, linkRule, homeRule, rowRule, weightRule, judged, homesThenRows, rankBefore, lowBefore}
 
 -- what follows a needed test matters only where it holds
 need-under : (t : Bool) (number rest rest′ : ℕ) → (t ≡ true → rest ≡ rest′) → need t number rest ≡ need t number rest′
 unfolding need
 need-under true number rest rest′ h = h refl
 need-under false number rest rest′ h = refl
+
+-- ---- records in turn, by number and place
+
+module _ (number-of place-of : ℕ → ℕ) (i number : ℕ) where
+  pub turn-taken : inTurn (judged number-of place-of) i ≡ Accepted → number ≡ number-of i → number ≡ 0 → inTurn (judged number-of place-of) (i + 1) ≡ Accepted
+  unfolding judged
+  turn-taken h e t = turn-more (judged number-of place-of) i h (sym (refuse-ok (number-of i) (place-of i) (sym e ∙ t)))
+
+  pub turn-refused : (m place : ℕ) → inTurn (judged number-of place-of) i ≡ Accepted → number ≡ number-of i → place ≡ place-of i → (number ≡ 0 → ⊥) → i < m
+      → Refused number place ≡ inTurn (judged number-of place-of) m
+  unfolding judged
+  turn-refused m place h e p t l =
+      sym (turn-stop (judged number-of place-of) i m number place l h (rw (← e, ← p) (sym (refuse-no number place t))))
 
 -- ---- the header
 
@@ -91,16 +104,7 @@ link-number s h l place last rank x y a b w number e er ex ey ep ea eb ew low r 
     e ∙ rw (er, ex, ey, ep, ea, eb, ew) (ap (λ (k : ℕ). needMark s (linkPlace l) 0x4C 0x4B (need (ltb (endB s l) (h .n)) 4 k))
     (need-under (ltb (endA s l) (endB s l)) 4 _ _ (λ t. ap (λ (q : Bool). need q 4 (need (leb 1 (linkWeight s l)) 5 (need (leb (linkWeight s l) (h .wmax)) 5 0))) (sym (in-order t)))))
 
-module _ (s : List ℕ) (h : Network) (l number : ℕ) (e : number ≡ linkNumber s h l) where
-  pub link-refused : (place : ℕ) → place ≡ linkPlace l → linkVerdict s h l ≡ refuse number place
-  unfolding linkVerdict
-  link-refused place p = rw (e, p)
-
-  pub link-taken : number ≡ 0 → linkVerdict s h l ≡ Accepted
-  unfolding linkVerdict
-  link-taken t = sym (refuse-ok (linkNumber s h l) (linkPlace l) (sym e ∙ t))
-
-pub ruleset link-turns = (turn-more, turn-refuse, ranked-more, link-number, link-refused, link-taken)
+pub ruleset link-turns = (turn-taken, turn-refused, turn-done, ranked-more, link-number)
 
 -- ---- homes
 
@@ -109,16 +113,7 @@ pub home-number : (s : List ℕ) (h : Network) (v place x y node topology number
 unfolding homeRule homeNumber needMark homeNode homeTopology
 home-number s h v place x y node topology number e ex ey en et ep = e ∙ rw (ex, ey, en, et, ep)
 
-module _ (s : List ℕ) (h : Network) (v number : ℕ) (e : number ≡ homeNumber s h v) where
-  pub home-refused : (place : ℕ) → place ≡ homePlace h v → homeVerdict s h v ≡ refuse number place
-  unfolding homeVerdict
-  home-refused place p = rw (e, p)
-
-  pub home-taken : number ≡ 0 → homeVerdict s h v ≡ Accepted
-  unfolding homeVerdict
-  home-taken t = sym (refuse-ok (homeNumber s h v) (homePlace h v) (sym e ∙ t))
-
-pub ruleset home-turns = (turn-more, turn-refuse, home-number, home-refused, home-taken)
+pub ruleset home-turns = (turn-taken, turn-refused, turn-done, home-number)
 
 -- ---- rows
 
@@ -200,26 +195,17 @@ module _ (s : List ℕ) (h : Network) (j place x y topology head : ℕ) (e : hea
   unfolding rowRule
   row-on number w t = w ∙ start-on (eqb x 0x42) (eqb y 0x57) (eqb topology (j + 1)) _ (sym e ∙ t) ∙ row-is
 
-module _ (s : List ℕ) (h : Network) (j number : ℕ) (e : number ≡ rowNumber s h j) where
-  pub row-refused : (place : ℕ) → place ≡ rowPlace h j → rowVerdict s h j ≡ refuse number place
-  unfolding rowVerdict
-  row-refused place p = rw (e, p)
-
-  pub row-taken : number ≡ 0 → rowVerdict s h j ≡ Accepted
-  unfolding rowVerdict
-  row-taken t = sym (refuse-ok (rowNumber s h j) (rowPlace h j) (sym e ∙ t))
-
-pub ruleset row-turns = (turn-more, turn-refuse, row-refused, row-taken)
+pub ruleset row-turns = (turn-taken, turn-refused, turn-done)
 
 -- ---- the judgement
 
-module _ (s : List ℕ) (h : Network) (v : Verdict) (e : v ≡ inTurn (linkVerdict s h) (h .m)) where
+module _ (s : List ℕ) (h : Network) (v : Verdict) (e : v ≡ inTurn (judged (linkNumber s h) linkPlace) (h .m)) where
   pub records-on : (w : Verdict) → v ≡ Accepted → w ≡ homesThenRows s h → w ≡ records s h
-  unfolding records homesThenRows linkVerdict homeVerdict rowVerdict
+  unfolding records homesThenRows judged
   records-on w t d = then-on v w _ _ t e d
 
   pub records-stop : (number place : ℕ) → v ≡ Refused number place → v ≡ records s h
-  unfolding records homesThenRows linkVerdict homeVerdict rowVerdict
+  unfolding records homesThenRows judged
   records-stop number place t = then-stop v _ _ number place t e
 
 module _ (s : List ℕ) (number : ℕ) (e : number ≡ headerNumber s) where

@@ -5,10 +5,10 @@ use lib.Dec.{eqb, ltb, leb}
 use Rattle.rules.specs.declared.Network.{Network}
 use Rattle.rules.specs.declared.Verdict.{Verdict}
 use Rattle.rules.specs.Basics.{need}
-use Rattle.rules.specs.Limits.{headerLength, homeRecords, linkPlace, homePlace, rowPlace}
+use Rattle.rules.specs.Limits.{headerLength, homeRecords, homePlace, rowPlace}
 use Rattle.rules.specs.File.{endA, endB}
 use Rattle.rules.specs.Isolation.{classBy, weightFits}
-use Rattle.rules.specs.Judgement.{refuse, andThen, inTurn, linkNumber, homeNumber, rowNumber}
+use Rattle.rules.specs.Judgement.{refuse, andThen, inTurn, homeNumber, rowNumber}
 
 unfoldable pub headerRule : ℕ → ℕ → ℕ → ℕ → ℕ
 headerRule long x y rest = need (leb headerLength long) 1 (need (eqb x 0x4E) 2 (need (eqb y 0x57) 2 rest))
@@ -37,19 +37,15 @@ rowRule i x y topology rest = need (eqb x 0x42) 2 (need (eqb y 0x57) 2 (need (eq
 unfoldable pub weightRule : ℕ → ℕ → ℕ → ℕ → ℕ → ℕ
 weightRule wmax i homeA homeB w = need (weightFits (classBy (eqb homeA i) (eqb homeB i)) wmax w) 5 0
 
--- ---- each record's verdict, and the records after the links
+-- ---- verdicts by number and place, and the records after the links
 
-unfoldable pub linkVerdict : List ℕ → Network → ℕ → Verdict
-linkVerdict s h l = refuse (linkNumber s h l) (linkPlace l)
-
-unfoldable pub homeVerdict : List ℕ → Network → ℕ → Verdict
-homeVerdict s h v = refuse (homeNumber s h v) (homePlace h v)
-
-unfoldable pub rowVerdict : List ℕ → Network → ℕ → Verdict
-rowVerdict s h j = refuse (rowNumber s h j) (rowPlace h j)
+-- record i's refusal number, at its place
+unfoldable pub judged : (ℕ → ℕ) → (ℕ → ℕ) → ℕ → Verdict
+judged number place i = refuse (number i) (place i)
 
 unfoldable pub homesThenRows : List ℕ → Network → Verdict
-homesThenRows s h = andThen (inTurn (homeVerdict s h) (homeRecords h)) (inTurn (rowVerdict s h) (h .k))
+homesThenRows s h =
+    andThen (inTurn (judged (homeNumber s h) (homePlace h)) (homeRecords h)) (inTurn (judged (rowNumber s h) (rowPlace h)) (h .k))
 
 -- ---- what a link must come after: 0 before the first, which any link with a < b passes; else 256 × a + b of the link before, with its b below 256
 

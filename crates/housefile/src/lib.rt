@@ -6,13 +6,13 @@ pub mod rule; // rule.rt: the tests of each record
 use rules::Network;
 use rules::Verdict;
 ghost use mathlib.Core.Path.{_≡_};
-ghost use Prim.Native.Nat.{_+_, _*_, _<_};
+ghost use Prim.Native.Nat.{_<_};
 ghost use lib.ListN.{getD};
 ghost use Rattle.rules.specs.Basics.{need, all};
 ghost use Rattle.rules.specs.Limits.{rowWeights, rowLength, homeRecords, linkPlace, homePlace, rowPlace, fileLength};
 ghost use Rattle.rules.specs.File.{two, headerOf, endA, endB, linkWeight, homeTopology, rowWeight};
-ghost use Rattle.rules.specs.Judgement.{inTurn, headerNumber, rowWeightFits, rowNumber, records, judge};
-ghost use Rattle.housefile.specs.Rules.{linkVerdict, homeVerdict, rowVerdict, homesThenRows};
+ghost use Rattle.rules.specs.Judgement.{inTurn, headerNumber, linkNumber, homeNumber, rowWeightFits, rowNumber, records, judge};
+ghost use Rattle.housefile.specs.Rules.{judged, homesThenRows};
 
 // ---- bytes
 
@@ -153,7 +153,7 @@ fn header_number(file: &[u8], net: Network) -> u8
 
 // The link records in turn.
 fn links(file: &[u8], net: Network) -> Verdict
-    ensures { λ r. ⌜ r ≡ inTurn (linkVerdict (now (file .entry)) net) (net .m) ⌝ }
+    ensures { λ r. ⌜ r ≡ inTurn (judged (linkNumber (now (file .entry)) net) linkPlace) (net .m) ⌝ }
 {
     let m = net.m as usize;
     let mut last = 0;
@@ -187,7 +187,7 @@ fn links(file: &[u8], net: Network) -> Verdict
 // The first home records in turn.
 fn homes(file: &[u8], net: Network, count: usize) -> Verdict
     requires { ⌜ count < 256 ⌝ }
-    ensures { λ r. ⌜ r ≡ inTurn (homeVerdict (now (file .entry)) net) count ⌝ }
+    ensures { λ r. ⌜ r ≡ inTurn (judged (homeNumber (now (file .entry)) net) (homePlace net)) count ⌝ }
 {
     let mut v = 0;
     while v < count {
@@ -248,7 +248,7 @@ fn row_number(file: &[u8], net: Network, j: usize, place: usize) -> u8
 
 // The rows in turn.
 fn rows(file: &[u8], net: Network) -> Verdict
-    ensures { λ r. ⌜ r ≡ inTurn (rowVerdict (now (file .entry)) net) (net .k) ⌝ }
+    ensures { λ r. ⌜ r ≡ inTurn (judged (rowNumber (now (file .entry)) net) (rowPlace net)) (net .k) ⌝ }
 {
     let k = net.k as usize;
     let mut j = 0;

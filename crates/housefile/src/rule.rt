@@ -2,7 +2,7 @@
 // other, in 01's order, and promises the number of the first that fails.
 use rules::Network;
 ghost use mathlib.Core.Path.{_≡_};
-ghost use Prim.Native.Nat.{_+_, _*_, _<_};
+ghost use Prim.Native.Nat.{_+_, _*_};
 ghost use lib.Dec.{eqb};
 ghost use Rattle.rules.specs.Basics.{need};
 ghost use Rattle.rules.specs.Limits.{needCounts};
@@ -136,25 +136,25 @@ pub fn row(i: usize, x: u8, y: u8, topology: u8) -> u8
 }
 
 // A weight of topology i's row, at a link whose ends have the homes p and q: 0 where an end is isolated in i, else 1 to wmax.
-pub fn weight(wmax: u16, i: usize, p: u8, q: u8, w: u16) -> u8
-    ensures { λ r. ⌜ r ≡ weightRule wmax i p q w ⌝ }
+pub fn weight(wmax: u16, i: usize, p: u8, q: u8, weight: u16) -> u8
+    ensures { λ r. ⌜ r ≡ weightRule wmax i p q weight ⌝ }
 {
     if p as usize == i {
-        if w != 0 {
+        if weight != 0 {
             return 5;
         }
         return 0;
     }
     if q as usize == i {
-        if w != 0 {
+        if weight != 0 {
             return 5;
         }
         return 0;
     }
-    if w < 1 {
+    if weight < 1 {
         return 5;
     }
-    if wmax < w {
+    if wmax < weight {
         return 5;
     }
     0

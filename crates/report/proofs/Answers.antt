@@ -1,8 +1,7 @@
 -- From the answer of the entry `tables` to that of `report`: the room for the longest tables is always enough, so both refuse the same files.
-use mathlib.Core.Path.{_≡_, refl, sym, ap, subst, _∙_}
-use mathlib.Core.Bool.{true}
-use mathlib.Core.List.{List, [], _∷_, _++_, append-assoc}
-use Prim.Native.Nat.{ℕ, zero, suc, _+_, _*_, _≤_, _<_}
+use mathlib.Core.Path.{_≡_, refl, sym, ap, _∙_}
+use mathlib.Core.List.{List, [], _∷_, _++_}
+use Prim.Native.Nat.{ℕ, _+_, _*_, _≤_}
 use native.Mathlib.Nat.{mul-le-mul, zero-add}
 use native.Mathlib.Omega.{arith}
 use lib.Dec.{leb}
@@ -19,9 +18,8 @@ use Rattle.rules.specs.File.{headerOf, setOf}
 use Rattle.rules.specs.Distance.{tableBytes}
 use Rattle.rules.specs.Judgement.{andThen, needRoom, check}
 use Rattle.rules.specs.Report.{decimal, newline, reportText, refusalLine, printed}
-use Rattle.rules.specs.Answers.{Told, accepted, refused, tell, lengthTells}
+use Rattle.rules.specs.Answers.{accepted, refused, tell, lengthTells}
 use Rattle.rules.specs.Entries.{onAccept, Promise, tablesEntry, reportEntry}
-use Rattle.rules.specs.Demands.{AcceptedSet}
 use Rattle.rules.proofs.Choices.{need-yes, refuse-ok, then-ok, then-no, then-first}
 use Rattle.rules.proofs.Held.{net-held}
 use Rattle.rules.proofs.Checked.{checked-set}
@@ -29,7 +27,7 @@ use Rattle.rules.proofs.Fits.{report-longest}
 use Rattle.report.specs.Text.{Wrote}
 use Rattle.report.specs.Lines.{Ready}
 use Rattle.report.specs.Answer.{Made, Says, it, line, Printed}
-use Rattle.report.proofs.Texts.{wrote-laid, wrote-then, wrote-as}
+use Rattle.report.proofs.Texts.{wrote-laid, wrote-then}
 
 -- ---- what an answer says of the verdict
 

@@ -1,10 +1,10 @@
 -- What the code looks up and runs by the file's own tables is what the rules say of its set.
-use mathlib.Core.Path.{_≡_, refl, sym, ap, ap₂, subst, _∙_}
+use mathlib.Core.Path.{_≡_, sym, ap, ap₂, subst, _∙_}
 use mathlib.Core.List.{List}
-use Prim.Native.Nat.{ℕ, zero, suc, _+_, _-_, _*_, _≤_, _<_}
+use Prim.Native.Nat.{ℕ, _+_, _-_, _*_, _<_}
 use native.Mathlib.Nat.{zero-mul, zero-add}
 use native.Mathlib.Omega.{arith}
-use lib.ListN.{length, getD}
+use lib.ListN.{getD}
 use Rattle.rules.specs.declared.Network.{Network}
 use Rattle.rules.specs.declared.Packet.{Packet}
 use Rattle.rules.specs.declared.Failure.{Failure}
@@ -14,21 +14,18 @@ use Rattle.rules.specs.declared.Kind.the-variants as change
 use Rattle.rules.specs.declared.Step.{Step}
 use Rattle.rules.specs.declared.Step.the-variants.{Delivered, Moved, Dropped}
 use Rattle.rules.specs.declared.Journey.{Journey}
-use Rattle.rules.specs.Basics.{laid}
 use Rattle.rules.specs.Limits.{mostHops}
-use Rattle.rules.specs.File.{Set, headerOf, setOf}
+use Rattle.rules.specs.File.{setOf}
 use Rattle.rules.specs.Isolation.{linkBetween}
-use Rattle.rules.specs.Distance.{nextHop, tableBytes}
+use Rattle.rules.specs.Distance.{nextHop}
 use Rattle.rules.specs.Forwarding.{link, faultOf, up, tablesOf, entryPlace, lentTables, packet, step, hops, run}
 use Rattle.rules.specs.Report.{kindOf, packetOf, detectedLink, detection, runUnder, backupHops, plainHops, extraHops}
-use Rattle.rules.specs.Demands.{AcceptedSet}
 use Rattle.rules.proofs.Held.{net-held}
 use Rattle.rules.proofs.Checked.{checked-set}
 use Rattle.rules.proofs.Runs.{starts}
 use Rattle.rules.proofs.Lent.{Agree, lent-agree, step-same, run-same}
 use Rattle.forwarding.specs.Hop.{on, tablesAt, stepAt}
 use Rattle.forwarding.specs.Trip.{runAt, journeyOf, RunsAs}
-use Rattle.report.specs.declared.seen.Seen.{Seen}
 use Rattle.report.specs.Lines.{Ready, Pair, seenBy}
 
 -- ---- the parts of a step

@@ -1,6 +1,6 @@
 -- Bytes written one after the other are their concatenation written at once; numbers, letters and byte strings as bytes.
 use mathlib.Core.Path.{_≡_, refl, sym, ap, subst, _∙_}
-use mathlib.Core.List.{List, [], _∷_, _++_, append-nil, append-assoc}
+use mathlib.Core.List.{List, [], _∷_, _++_}
 use Prim.Native.Nat.{ℕ, zero, suc, _+_, _-_, _/_, _%_, _≤_, _<_}
 use native.Mathlib.Numerals.{add-one}
 use native.Mathlib.Omega.{arith}
@@ -9,7 +9,7 @@ use lib.Seq.{sets, set-out, sets-eq, take-suc, take-all}
 use Rattle.rules.specs.declared.Kind.{Kind}
 use Rattle.rules.specs.declared.Kind.the-variants as change
 use Rattle.rules.specs.Basics.{laid}
-use Rattle.rules.specs.Report.{digits, decimal, space, newline, letter}
+use Rattle.rules.specs.Report.{digits, decimal, space, letter}
 use Rattle.rules.proofs.Fits.{digits-one, digits-more}
 use Rattle.report.specs.Text.{written, Wrote, field}
 

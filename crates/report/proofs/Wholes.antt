@@ -1,18 +1,16 @@
 -- The parts of a line, the lines and the whole text, put together.
-use mathlib.Core.Path.{_≡_, refl, sym, ap, subst, _∙_}
-use mathlib.Core.Bool.{Bool, true, false}
+use mathlib.Core.Path.{_≡_, sym, ap, subst, _∙_}
 use mathlib.Core.List.{List, [], _∷_, _++_, append-assoc}
-use Prim.Native.Nat.{ℕ, zero, suc, _+_, _-_, _*_, _≤_, _<_}
+use Prim.Native.Nat.{ℕ, _+_, _-_, _*_, _≤_}
 use native.Mathlib.Nat.{mul-le-mul}
 use native.Mathlib.Numerals.{add-one}
 use native.Mathlib.Omega.{arith}
 use lib.Dec.{eqb}
-use lib.ListN.{length}
 use borrow.Author.Tests.{eq-eqb, ne-eqb}
 use Rattle.rules.specs.declared.Network.{Network}
 use Rattle.rules.specs.declared.Kind.{Kind}
 use Rattle.rules.specs.Basics.{if_then_else_, flat}
-use Rattle.rules.specs.File.{Set, headerOf, setOf}
+use Rattle.rules.specs.File.{Set, setOf}
 use Rattle.rules.specs.Report.{decimal, space, newline, letter, headerLine, detectionLine, detectionLines, lastLine, reportText}
 use Rattle.rules.proofs.Choices.{if-yes, if-no}
 use Rattle.report.specs.declared.seen.Seen.{Seen}

@@ -2,6 +2,7 @@
 // `tables` are the file's own.
 use forwarding::hop::link_between;
 use forwarding::hop::take;
+use order::most_hops;
 use order::times;
 use forwarding::travel::travel;
 use housefile::byte;
@@ -11,10 +12,9 @@ use rules::Network;
 use rules::Packet;
 use rules::Step;
 ghost use mathlib.Core.Path.{_≡_};
-ghost use Prim.Native.Nat.{_+_, _-_, _≤_, _<_};
+ghost use Prim.Native.Nat.{_-_};
 ghost use lib.ListN.{length, getD};
 ghost use Rattle.rules.specs.File.{setOf};
-ghost use Rattle.rules.specs.Limits.{mostHops};
 ghost use Rattle.rules.specs.Forwarding.{faultOf, entryPlace, hops};
 ghost use Rattle.rules.specs.Report.{kindOf, packetOf, runUnder};
 ghost use Rattle.report.specs.Lines.{Ready, Pair, seenBy};
@@ -64,14 +64,6 @@ fn trail_room() -> [u8; Network::LONGEST_TRAIL]
     ensures { λ r. ⌜ length r ≡ 62 ⌝ }
 {
     [0; Network::LONGEST_TRAIL]
-}
-
-// The most hops of a run.
-fn most_hops(net: Network) -> u8
-    requires { ⌜ (3 ≤ net .n) × (net .n ≤ 32) ⌝ }
-    ensures { λ r. ⌜ (r ≡ mostHops net) × (r < 62) ⌝ }
-{
-    2 * net.n - 3
 }
 
 // How many hops a packet makes from u to t under this failure.

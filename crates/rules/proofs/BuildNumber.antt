@@ -1,4 +1,4 @@
--- The builder's refusals: 9 exactly where removing some one node disconnects the others, 10 exactly where first fit needs more than the cap.
+-- The builder's refusals: 9 exactly where removing some one node disconnects the others, 10 exactly where first fit topologiesNeeded more than the cap.
 use mathlib.Core.Path.{_≡_, refl, ap, _∙_}
 use mathlib.Core.Bool.{Bool, true, false}
 use mathlib.Core.Logic.{_↔_, _⊎_, inl, inr}
@@ -11,14 +11,14 @@ use borrow.Author.Tests.{leb-true, leb-false, le-leb}
 use Rattle.rules.specs.Basics.{need, all, lowest}
 use Rattle.rules.specs.File.{Set}
 use Rattle.rules.specs.Building.{admits, firstTopology, homesAfter, firstFit, fits, highest, spared, buildNumber}
-use Rattle.rules.specs.Demands.{MeetsRules, Removable, needs}
+use Rattle.rules.specs.Demands.{MeetsRules, Removable, topologiesNeeded}
 use Rattle.rules.proofs.Choices.{false-of, clash}
 use Rattle.rules.proofs.Numbers.{all-of, lowest-is, lowest-before, lowest-one}
 use Rattle.rules.proofs.Removal.{spared-exactly}
 use Rattle.rules.proofs.FirstFit.{placed, home-n, home-high, succeeds, fitted-removable}
 use Rattle.rules.proofs.Built.{highest-most, highest-least}
 
--- ---- what first fit needs: the topologies that it uses when it is allowed as many as there are nodes
+-- ---- what first fit topologiesNeeded: the topologies that it uses when it is allowed as many as there are nodes
 
 -- a first topology within two caps is the first under both
 given-same : (G : Set) (c d : ℕ) (homes : List ℕ) (v : ℕ) → firstTopology G c homes v ≤ c → firstTopology G c homes v ≤ d → firstTopology G d homes v ≡ firstTopology G c homes v
@@ -54,8 +54,8 @@ fit-same G c d ok h =
     (omega arith, omega arith))
 
 module _ (G : Set) (cap : ℕ) (R : MeetsRules G) where
-  pub fits-needs : Removable G → (fits G cap ≡ true) ↔ (needs G ≤ cap)
-  unfolding needs fits
+  pub fits-needs : Removable G → (fits G cap ≡ true) ↔ (topologiesNeeded G ≤ cap)
+  unfolding topologiesNeeded fits
   fits-needs O = (few, enough)
     where
       few : fits G cap ≡ true → highest (firstFit G (G .net .n)) (G .net .n) ≤ cap
@@ -95,7 +95,7 @@ module _ (G : Set) (cap : ℕ) (R : MeetsRules G) where
       nine true false e = absurd (omega arith)
       nine false f e = refl
 
-  pub ten-exactly : (buildNumber G cap ≡ 10) ↔ (Removable G × (cap < needs G))
+  pub ten-exactly : (buildNumber G cap ≡ 10) ↔ (Removable G × (cap < topologiesNeeded G))
   unfolding buildNumber need
   ten-exactly = (λ e. over (ten (all (spared G) (G .net .n)) (fits G cap) e), λ h. rw (spared-exactly G R .1 (h .0), unfit (h .0) (h .1)))
     where
@@ -104,14 +104,14 @@ module _ (G : Set) (cap : ℕ) (R : MeetsRules G) where
       ten true false e = (refl, refl)
       ten false f e = absurd (omega arith)
 
-      over : (all (spared G) (G .net .n) ≡ true) × (fits G cap ≡ false) → Removable G × (cap < needs G)
+      over : (all (spared G) (G .net .n) ≡ true) × (fits G cap ≡ false) → Removable G × (cap < topologiesNeeded G)
       over t =
           let O = spared-exactly G R .0 (t .0) in
-          (O, past O (leb (needs G) cap) refl (t .1))
+          (O, past O (leb (topologiesNeeded G) cap) refl (t .1))
         where
-          past : Removable G → (b : Bool) → leb (needs G) cap ≡ b → fits G cap ≡ false → cap < needs G
-          past O true q f = absurd (clash (fits G cap) (fits-needs O .1 (leb-true (needs G) cap q)) f)
-          past O false q f = leb-false (needs G) cap q
+          past : Removable G → (b : Bool) → leb (topologiesNeeded G) cap ≡ b → fits G cap ≡ false → cap < topologiesNeeded G
+          past O true q f = absurd (clash (fits G cap) (fits-needs O .1 (leb-true (topologiesNeeded G) cap q)) f)
+          past O false q f = leb-false (topologiesNeeded G) cap q
 
-      unfit : Removable G → cap < needs G → fits G cap ≡ false
+      unfit : Removable G → cap < topologiesNeeded G → fits G cap ≡ false
       unfit O l = false-of (fits G cap) (λ e. let h = fits-needs O .0 e in omega arith)

@@ -210,10 +210,6 @@ unfolding inTurn
 turn-agree f g zero h = refl
 turn-agree f g (suc n) h = turn-step f g n (inTurn f n) refl (turn-agree f g n (λ i l. h i (omega arith))) (h n (omega arith))
 
--- the same of one that was judged by its refusal number
-pub turn-refuse : (f : ℕ → Verdict) (i m number place : ℕ) → inTurn f i ≡ Accepted → (number ≡ 0 → ⊥) → i < m → f i ≡ refuse number place → Refused number place ≡ inTurn f m
-turn-refuse f i m number place h t l e = sym (turn-stop f i m number place l h (e ∙ sym (refuse-no number place t)))
-
 -- the same count gives the same answer
 pub turn-count : (f : ℕ → Verdict) (m n : ℕ) (v : Verdict) → v ≡ inTurn f m → m ≡ n → v ≡ inTurn f n
 turn-count f m n v e d = e ∙ ap (inTurn f) d

@@ -35,11 +35,11 @@ module _ (S : Set) where
 
   -- ---- lengths
 
-  link-long : (l : ℕ) → l < S .net .m → length (linkBytes S l) ≡ 6
+  pub link-long : (l : ℕ) → l < S .net .m → length (linkBytes S l) ≡ 6
   unfolding linkBytes bytes2
   link-long l h = refl
 
-  home-long : (v : ℕ) → v < homeRecords (S .net) → length (homeBytes S v) ≡ 4
+  pub home-long : (v : ℕ) → v < homeRecords (S .net) → length (homeBytes S v) ≡ 4
   unfolding homeBytes
   home-long v h = refl
 
@@ -47,18 +47,18 @@ module _ (S : Set) where
   unfolding bytes2
   weight-long j x h = refl
 
-  row-long : (j : ℕ) → j < S .net .k → length (rowBytes S j) ≡ rowLength (S .net)
+  pub row-long : (j : ℕ) → j < S .net .k → length (rowBytes S j) ≡ rowLength (S .net)
   unfolding rowBytes rowLength
   row-long j h = omega (arith, length-flat (weight j) 2 (rowWeights (S .net)) (weight-long j))
 
-  header-long : length (headerBytes (S .net)) ≡ 8
+  pub header-long : length (headerBytes (S .net)) ≡ 8
   unfolding headerBytes bytes2
   header-long = refl
 
-  links-long : length links ≡ S .net .m * 6
+  pub links-long : length links ≡ S .net .m * 6
   links-long = length-flat (linkBytes S) 6 (S .net .m) link-long
 
-  homes-long : length homes ≡ homeRecords (S .net) * 4
+  pub homes-long : length homes ≡ homeRecords (S .net) * 4
   homes-long = length-flat (homeBytes S) 4 (homeRecords (S .net)) home-long
 
   rows-long : length rows ≡ S .net .k * rowLength (S .net)

@@ -3,20 +3,18 @@ use mathlib.Core.Path.{_≡_, refl, sym, ap, subst, _∙_}
 use mathlib.Core.Bool.{Bool, true, false}
 use mathlib.Core.List.{List, [], _∷_, _++_}
 use Prim.Native.Nat.{ℕ, zero, suc, _+_, _-_, _*_, _/_, _%_, _≤_, _<_}
-use native.Mathlib.Nat.{mul-assoc, mul-le-mul, mul-le-mul-left, mul-le-mul-right, mod-eq-of-lt, suc-mul, zero-mul}
+use native.Mathlib.Nat.{mul-assoc, mul-le-mul, mul-le-mul-right, mod-eq-of-lt, suc-mul, zero-mul}
 use native.Mathlib.Omega.{arith}
 use lib.Dec.{eqb, ltb}
 use lib.ListN.{length, length-append}
 use borrow.Author.Tests.{lt-ltb, le-ltb, eq-eqb, ltb-true, ltb-false, eqb-true, eqb-false}
-use Rattle.rules.specs.declared.Packet.{Packet}
 use Rattle.rules.specs.declared.Step.{Step}
-use Rattle.rules.specs.declared.Step.the-variants.{Moved}
 use Rattle.rules.specs.Basics.{if_then_else_, flat}
 use Rattle.rules.specs.Limits.{mostHops, reportRoom}
 use Rattle.rules.specs.File.{Set}
 use Rattle.rules.specs.Distance.{nextHop}
-use Rattle.rules.specs.Forwarding.{link, up, packet, hops}
-use Rattle.rules.specs.Report.{digits, decimal, space, newline, letter, headerLine, packetOf, kindOf, detectedLink, detection, runUnder, backupHops, plainHops, extraHops, detectionLine, detectionLines, lastLine, reportText}
+use Rattle.rules.specs.Forwarding.{link, up, packet}
+use Rattle.rules.specs.Report.{digits, decimal, headerLine, packetOf, detectedLink, detection, runUnder, backupHops, extraHops, detectionLine, detectionLines, lastLine, reportText}
 use Rattle.rules.specs.Demands.{AcceptedSet}
 use Rattle.rules.proofs.Choices.{if-yes, if-no}
 use Rattle.rules.proofs.NextHops.{least-next-hops}

@@ -2,12 +2,18 @@
 use mathlib.Core.Path.{_≡_, refl, sym, ap, ap₂, _∙_}
 use mathlib.Core.Logic.{⊎-elim}
 use mathlib.Core.List.{List, [], _∷_, _++_, append-nil, append-assoc}
-use Prim.Native.Nat.{ℕ, zero, suc, _+_, _-_, _*_, _≤_, _<_, min}
+use Prim.Native.Nat.{ℕ, zero, suc, _+_, _*_, _≤_, _<_}
 use native.Mathlib.Nat.{add-zero, add-suc, zero-mul, suc-mul, mul-le-mul-right, eq-or-lt-of-le, le-of-suc-le-suc}
 use native.Mathlib.Numerals.{add-one}
 use native.Mathlib.Omega.{arith}
 use lib.ListN.{length, getD, take, drop, length-append, length-drop, List·getD-append}
 use lib.Seq.{getD-at, getD-append-add, getD-take, getD-drop, ext-getD, length-take-le, take-append-seam, drop-append-seam}
+use mathlib.Core.List.{List, [], _∷_, _++_, append-assoc}
+use Prim.Native.Nat.{ℕ, zero, suc, _+_, _*_, _≤_, _<_}
+use native.Mathlib.Nat.{zero-mul, suc-mul, mul-le-mul-right, eq-or-lt-of-le, le-of-suc-le-suc}
+use lib.ListN.{length, getD, take, drop, set, length-append, length-drop, List·getD-append}
+use lib.Seq.{getD-at, getD-append-add, drop-cons, drop-drop, set-append-seam, ext-getD, take-append-seam, drop-append-seam}
+use lib.Seq.{getD-at, getD-append-add, getD-take, drop-cons, drop-drop, set-append-seam, ext-getD, length-take-le, take-append-seam, drop-append-seam}
 use Rattle.rules.specs.Basics.{upTo, flat, laid}
 
 -- ---- upTo
@@ -103,3 +109,22 @@ laid-rest new old = drop-append-seam new (drop (length new) old)
 pub laid-front : (new old : List ℕ) → take (length new) (laid new old) ≡ new
 unfolding laid
 laid-front new old = take-append-seam new (drop (length new) old)
+
+-- one entry more
+pub laid-more : (new old : List ℕ) (v : ℕ) → length new < length old → set (laid new old) (length new) v ≡ laid (new ++ (v ∷ [])) old
+unfolding laid
+laid-more new old v h =
+    ap (λ (l : List ℕ). set (new ++ l) (length new) v) (drop-cons old (length new) 0 h)
+    ∙ set-append-seam new (getD old (length new) 0) (drop (suc (length new)) old) v
+    ∙ sym (append-assoc new (v ∷ []) (drop (length (new ++ (v ∷ []))) old)
+    ∙ ap (λ (n : ℕ). new ++ (v ∷ drop n old)) (length-append new (v ∷ []) ∙ add-one (length new)))
+
+-- a second list behind the first
+pub laid-behind : (first second old : List ℕ) → first ++ laid second (drop (length first) old) ≡ laid (first ++ second) old
+unfolding laid
+laid-behind first second old =
+    ap (λ (l : List ℕ). first ++ (second ++ l)) (drop-drop (length second) (length first) old)
+    ∙ sym (append-assoc first second (drop (length (first ++ second)) old) ∙ ap (λ (n : ℕ). first ++ (second ++ drop n old)) (length-append first second))
+
+pub laid-on : (first second old : List ℕ) → take (length first) (laid first old) ++ laid second (drop (length first) (laid first old)) ≡ laid (first ++ second) old
+laid-on first second old = rw (laid-front, laid-rest) (laid-behind first second old)

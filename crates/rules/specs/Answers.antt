@@ -68,6 +68,7 @@ stepValues (Delivered p) = 1 ∷ 45 ∷ packetValues p
 stepValues (Moved p kind) = 0 ∷ letter kind ∷ packetValues p
 stepValues (Dropped p) = 2 ∷ 45 ∷ packetValues p
 
+-- one step: the values above, or the refusal
 unfoldable pub stepTells : StepAnswer → Told
 stepTells (stepped.Taken s) = accepted (stepValues s)
 stepTells (stepped.Refused number place) = refused number place
@@ -76,6 +77,7 @@ stepTells (stepped.Refused number place) = refused number place
 unfoldable pub journeyValues : Journey → List ℕ
 journeyValues j = outcomeValue (j .outcome) ∷ j .hops ∷ j .topology ∷ letter (j .kind) ∷ []
 
+-- a run: the values above, or the refusal
 unfoldable pub runTells : RunAnswer → Told
 runTells (ran.Ended j) = accepted (journeyValues j)
 runTells (ran.Refused number place) = refused number place

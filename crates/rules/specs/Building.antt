@@ -30,6 +30,7 @@ unfoldable pub homesAfter : Set → ℕ → ℕ → List ℕ
 homesAfter G cap zero = homeless G
 homesAfter G cap (suc v) = set (homesAfter G cap v) v (firstTopology G cap (homesAfter G cap v) v)
 
+-- the homes that first fit gives, once every node has had its turn
 unfoldable pub firstFit : Set → ℕ → List ℕ
 firstFit G cap = homesAfter G cap (G .net .n)
 

@@ -43,6 +43,7 @@ pub record TakesEveryInput {Input Lent Answer : Type 0} (E : Entry Input Lent An
   pub determined : (i : Input) (before : Lent) (r r′ : Answer) (after after′ : Lent) → Promise E i before r after → Promise E i before r′ after′
       → (r ≡ r′) × (after ≡ after′)
 
+-- demand 1, of each entry
 pub record Demand1 : Type 0 where
   pub read : TakesEveryInput readEntry
   pub write : TakesEveryInput writeEntry
@@ -55,6 +56,7 @@ pub record Demand1 : Type 0 where
 
 -- ==== Demand 2. "A file or set is accepted exactly when it meets the published rules."
 
+-- "n from 3 to 32, m from 3 to 128 links, k from 0 to 32 backup topologies with k at most n. wmax is 1 to 65,535."
 pub record WithinLimits (h : Network) : Type 0 where
   pub nodes : (3 ≤ h .n) × (h .n ≤ 32)
   pub links : (3 ≤ h .m) × (h .m ≤ 128)
@@ -95,9 +97,11 @@ Bytes s = (i : ℕ) → i < length s → getD s i 0 < 256
 abbrev pub AcceptedExactly : Type 0
 AcceptedExactly = (s : List ℕ) → Bytes s → (judge s ≡ Accepted) ↔ ((S : Set) × MeetsRules S × (encode S ≡ s))
 
+-- two sets that meet the rules and are written as the same bytes are one
 abbrev pub OneSet : Type 0
 OneSet = (S S′ : Set) → MeetsRules S → MeetsRules S′ → encode S ≡ encode S′ → S ≡ S′
 
+-- "The longest file is 9,192 bytes."
 abbrev pub LongestFile : Type 0
 LongestFile = (s : List ℕ) → judge s ≡ Accepted → length s ≤ 9192
 
@@ -112,6 +116,7 @@ SameBytes =
 abbrev pub Same : ℕ → List ℕ → List ℕ → Type 0
 Same count l l′ = take count l ≡ take count l′
 
+-- five lists agree within the counts
 pub record SameLists (h : Network) (d d′ : Lists) : Type 0 where
   pub a : Same (h .m) (d .a) (d′ .a)
   pub b : Same (h .m) (d .b) (d′ .b)
@@ -153,15 +158,18 @@ pub record AcceptedSet (S : Set) : Type 0 where
   pub topologies : 1 ≤ S .net .k
   pub sound : (i : ℕ) → 1 ≤ i → i ≤ S .net .k → Sound S i
 
+-- bytes pass the check exactly when they are the encoding of an accepted set
 abbrev pub CheckedExactly : Type 0
 CheckedExactly = (s : List ℕ) → Bytes s → (check s ≡ Accepted) ↔ ((S : Set) × AcceptedSet S × (encode S ≡ s))
 
 -- ---- "Every next hop lies on a path of least total weight, ties to the lower number."
 
+-- the distance that is computed is the least total over all paths, in every topology of an accepted set; so there is a path
 abbrev pub LeastDistances : Type 0
 LeastDistances =
     (S : Set) → AcceptedSet S → (i u t : ℕ) → i ≤ S .net .k → u < S .net .n → t < S .net .n → LeastTotal S i u t (distance S i u t)
 
+-- w is the next hop at u for t: over a usable link, on a path of least total weight, and the lowest such neighbour
 pub record NextHopIs (S : Set) (i u t w : ℕ) : Type 0 where
   pub node : w < S .net .n
   pub over : usable S i u w ≡ true
@@ -172,20 +180,24 @@ pub record NextHopIs (S : Set) (i u t w : ℕ) : Type 0 where
   -- no lower-numbered neighbour lies on such a path
   pub lower : (x y : ℕ) → x < w → usable S i u x ≡ true → Path S i t x y → LeastTotal S i u t (hopWeight S i u x + y) → ⊥
 
+-- every next hop of an accepted set is that neighbour
 abbrev pub LeastNextHops : Type 0
 LeastNextHops =
     (S : Set) → AcceptedSet S → (i u t : ℕ) → i ≤ S .net .k → u < S .net .n → t < S .net .n → (u ≡ t → ⊥) → NextHopIs S i u t (nextHop S i u t)
 
+-- w is the alternate at u for v: a candidate, none is nearer to v, and none as near has a lower number
 pub record AlternateIs (S : Set) (u v w : ℕ) : Type 0 where
   pub chosen : candidate S u v w ≡ true
   pub nearest : (x : ℕ) → x < S .net .n → candidate S u v x ≡ true → distance S (home S u) w v ≤ distance S (home S u) x v
   pub lower : (x : ℕ) → x < w → candidate S u v x ≡ true → distance S (home S u) w v < distance S (home S u) x v
 
+-- every alternate of an accepted set for a neighbour with another home is that candidate
 abbrev pub NearestAlternates : Type 0
 NearestAlternates =
     (S : Set) → AcceptedSet S → (u v : ℕ) → u < S .net .n → v < S .net .n → neighbours S u v ≡ true → (home S u ≡ home S v → ⊥)
     → AlternateIs S u v (alternate S u v)
 
+-- demand 2
 pub record Demand2 : Type 0 where
   pub accepted-exactly : AcceptedExactly
   pub one-set : OneSet
@@ -224,16 +236,19 @@ pub record Bounded (S : Set) (on : ℕ → ℕ → Bool) (source : ℕ) (r : Run
   pub crossed : EachHop (λ u w. (neighbours S u w ≡ true) × (on u w ≡ true)) source (r .visited)
   pub ends : last source (r .visited) ≡ r .place
 
+-- so is every run of an accepted set, whichever hops are up
 abbrev pub AlwaysBounded : Type 0
 AlwaysBounded =
     (S : Set) → AcceptedSet S → (on : ℕ → ℕ → Bool) (u t : ℕ) → u < S .net .n → t < S .net .n
     → Bounded S on u (run S (tablesOf S) on (mostHops (S .net)) (packet u t 0))
 
+-- a run that is delivered, within those bounds, and crosses nothing that is down
 pub record DeliveredBy (S : Set) (f : Fault) (source destination : ℕ) (r : Run) : Type 0 where
   pub outcome : r .outcome ≡ ended.Delivered
   pub place : r .place ≡ destination
   pub bounded : Bounded S (up S f) source r
 
+-- demand 3 of the forwarding rule itself
 abbrev pub Delivery : Type 0
 Delivery =
     (S : Set) → AcceptedSet S → (f : Fault) → Tolerated S f → (source destination : ℕ) → source < S .net .n → destination < S .net .n
@@ -260,6 +275,7 @@ pub record KindIs (S : Set) (p : Packet) (v : ℕ) (q : Packet) (kind : Kind) : 
   pub to-place : kind ≡ change.D → q .topology ≡ home S (p .place)
   pub to-next : (kind ≡ change.D → ⊥) → q .topology ≡ home S v
 
+-- so is every change of topology in an accepted set
 abbrev pub KindsAre : Type 0
 KindsAre =
     (S : Set) → AcceptedSet S → (on : ℕ → ℕ → Bool) (p q : Packet) (kind : Kind) → p .place < S .net .n → p .destination < S .net .n → p .topology ≤ S .net .k
@@ -287,6 +303,7 @@ pub record LineIsRun (S : Set) (u t : ℕ) (r : Run) : Type 0 where
   pub visited : r .visited ≡ neighbour ∷ rest
   pub changed : r .changes ≡ 1
 
+-- every line of an accepted set's report is of that kind
 abbrev pub LinesAreRuns : Type 0
 LinesAreRuns =
     (S : Set) → AcceptedSet S → (u t : ℕ) → u < S .net .n → t < S .net .n → (u ≡ t → ⊥)
@@ -302,9 +319,11 @@ avoiding G v u w = neighbours G u w && (not (eqb u v) && not (eqb w v))
 abbrev pub OthersJoined : Set → ℕ → Type 0
 OthersJoined G v = (u w : ℕ) → u < G .net .n → w < G .net .n → (u ≡ v → ⊥) → (w ≡ v → ⊥) → Walk (avoiding G v) u w
 
+-- removing any one node leaves the others connected
 abbrev pub Removable : Set → Type 0
 Removable G = (v : ℕ) → v < G .net .n → OthersJoined G v
 
+-- first fit, allowed n topologies, places every node exactly when any one node can be removed
 abbrev pub BuiltExactly : Type 0
 BuiltExactly = (G : Set) → MeetsRules G → (fits G (G .net .n) ≡ true) ↔ Removable G
 
@@ -320,14 +339,14 @@ BuildAnswers =
     → ((bytes : ℕ) × (r ≡ long.Length bytes)) ↔ Removable (setOf (i .file))
 
 -- how many topologies first fit takes where it is allowed n
-unfoldable pub needs : Set → ℕ
-needs G = highest (firstFit G (G .net .n)) (G .net .n)
+unfoldable pub topologiesNeeded : Set → ℕ
+topologiesNeeded G = highest (firstFit G (G .net .n)) (G .net .n)
 
--- 9 exactly where removing some one node disconnects the others; 10 exactly where none does and first fit needs more than the cap
+-- 9 exactly where removing some one node disconnects the others; 10 exactly where none does and first fit topologiesNeeded more than the cap
 abbrev pub RefusedExactly : Type 0
 RefusedExactly =
     (G : Set) (cap : ℕ) → MeetsRules G
-    → ((buildNumber G cap ≡ 9) ↔ (Removable G → ⊥)) × ((buildNumber G cap ≡ 10) ↔ (Removable G × (cap < needs G)))
+    → ((buildNumber G cap ≡ 9) ↔ (Removable G → ⊥)) × ((buildNumber G cap ≡ 10) ↔ (Removable G × (cap < topologiesNeeded G)))
 
 -- an accepted set's graph is connected, stays so without any one node, and has at least as many links as nodes
 pub record AcceptedGraph (S : Set) : Type 0 where
@@ -335,6 +354,7 @@ pub record AcceptedGraph (S : Set) : Type 0 where
   pub removable : Removable S
   pub links : S .net .n ≤ S .net .m
 
+-- every accepted set's graph is so
 abbrev pub AcceptedGraphs : Type 0
 AcceptedGraphs = (S : Set) → AcceptedSet S → AcceptedGraph S
 
@@ -348,6 +368,7 @@ pub record Fewer (S : Set) (i : ℕ) (S′ : Set) (j : ℕ) : Type 0 where
 abbrev pub FewerIsolated : Type 0
 FewerIsolated = (S S′ : Set) (i j : ℕ) → Fewer S i S′ j → Sound S i → Sound S′ j
 
+-- demand 3
 pub record Demand3 : Type 0 where
   pub bounded : AlwaysBounded
   pub delivery : Delivery

@@ -31,6 +31,7 @@ far = 1073741824
 unfoldable pub longer : Set → ℕ → List ℕ → List ℕ
 longer S i d = upTo (λ u. least (usable S i u) (λ w. hopWeight S i u w + getD d w far) (S .net .n) (getD d u far)) (S .net .n)
 
+-- the least totals toward t over paths of at most h links, node by node: with none, t is at 0 and no other is reached
 unfoldable pub totals : Set → ℕ → ℕ → ℕ → List ℕ
 totals S i t zero = upTo (λ u. if eqb u t then 0 else far) (S .net .n)
 totals S i t (suc h) = longer S i (totals S i t h)
@@ -39,20 +40,24 @@ totals S i t (suc h) = longer S i (totals S i t h)
 unfoldable pub distances : Set → ℕ → ℕ → List ℕ
 distances S i t = totals S i t (S .net .n - 1)
 
+-- the distance from u to t in topology i
 unfoldable pub distance : Set → ℕ → ℕ → ℕ → ℕ
 distance S i u t = getD (distances S i t) u far
 
 -- ---- "The next hop at u for t ≠ u is the lowest-numbered neighbour w whose link weight plus its distance to t equals u's distance. For t = u the entry is u."
 
+-- w is a neighbour of u over a usable link whose weight plus w's distance equals u's; d: the distances to the destination
 unfoldable pub onLeastPath : Set → ℕ → ℕ → List ℕ → ℕ → Bool
 onLeastPath S i u d w = usable S i u w && eqb (hopWeight S i u w + getD d w far) (getD d u far)
 
+-- the next hop at u for t in topology i
 unfoldable pub nextHop : Set → ℕ → ℕ → ℕ → ℕ
 nextHop S i u t = if eqb u t then u else lowest (onLeastPath S i u (distances S i t)) (S .net .n) 255
 
 -- ---- "The alternate at u for a neighbour v with another home: in u's home topology, among neighbours w ≠ v joined to u by a restricted link,
 -- the one with the least distance to v, ties to the lower number. All other alternate entries are 255."
 
+-- a restricted link
 unfoldable pub isRestricted : Class → Bool
 isRestricted Class.Isolated = false
 isRestricted Class.Restricted = true
@@ -67,6 +72,7 @@ unfoldable pub nearest : Set → ℕ → ℕ → List ℕ → ℕ
 nearest S u v d =
     lowest (λ w. candidate S u v w && eqb (getD d w far) (least (candidate S u v) (λ x. getD d x far) (S .net .n) far)) (S .net .n) 255
 
+-- the alternate at u for v
 unfoldable pub alternate : Set → ℕ → ℕ → ℕ
 alternate S u v =
     if neighbours S u v && not (eqb (home S u) (home S v)) then nearest S u v (distances S (home S u) v) else 255

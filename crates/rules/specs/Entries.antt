@@ -49,6 +49,7 @@ NothingLent = Unit {0}
 
 -- ---- read: from a file into five lent lists. Refusals 1 to 6, 14
 
+-- the five lists: link ends a, link ends b, link weights, homes, backup weights
 pub record Lists : Type 0 where
   pub a : List ℕ
   pub b : List ℕ
@@ -56,6 +57,7 @@ pub record Lists : Type 0 where
   pub homes : List ℕ
   pub rows : List ℕ
 
+-- the five lists as one value
 abbrev pub lists : List ℕ → List ℕ → List ℕ → List ℕ → List ℕ → Lists
 lists a b weights homes rows = record { a = a; b = b; weights = weights; homes = homes; rows = rows }
 
@@ -74,6 +76,7 @@ needLists number h d =
 unfoldable pub listsWith : Set → Lists → Lists
 listsWith S d = lists (laid (S .a) (d .a)) (laid (S .b) (d .b)) (laid (S .weights) (d .weights)) (laid (S .homes) (d .homes)) (laid (S .rows) (d .rows))
 
+-- the entry `read`
 unfoldable pub readEntry : Entry (List ℕ) Lists ReadAnswer
 readEntry =
     record {
@@ -86,13 +89,16 @@ readEntry =
 -- ---- write: from a header and five lists into a lent file. Refusals 3, 1 for a short list, 4 to 6, 14: "The writer gives the number and place the
 -- reader would give for what it would write; [..] a list shorter than the counts need is 1"
 
+-- what writing is given
 pub record WriteInput : Type 0 where
   pub net : Network
   pub lists : Lists
 
+-- the set of a header and five lists
 unfoldable pub setWith : Network → Lists → Set
 setWith h d = record { net = h; a = d .a; b = d .b; weights = d .weights; homes = d .homes; rows = d .rows }
 
+-- the entry `write`
 unfoldable pub writeEntry : Entry WriteInput (List ℕ) LengthAnswer
 writeEntry =
     record {
@@ -108,18 +114,22 @@ writeEntry =
 
 -- ---- check: of a file. Refusals 1 to 6, 13, then 7 and 8 by topology
 
+-- the entry `check`
 unfoldable pub checkEntry : Entry (List ℕ) NothingLent Verdict
 checkEntry = record { verdict = λ s d. check s; tells = verdictTells; gives = λ s d. []; leaves = λ s d. d }
 
 -- ---- build: from a graph's file and a cap into a lent file. Refusals 1 to 6, 13, 11, 9, 10, 14
 
+-- what building is given
 pub record BuildInput : Type 0 where
   pub file : List ℕ
   pub cap : ℕ
 
+-- the set that is built
 unfoldable pub builtFrom : BuildInput → Set
 builtFrom i = built (setOf (i .file)) (i .cap)
 
+-- the entry `build`
 unfoldable pub buildEntry : Entry BuildInput (List ℕ) LengthAnswer
 buildEntry =
     record {
@@ -136,6 +146,7 @@ buildEntry =
 
 -- ---- tables: from a file into a lent buffer. Refusals 1 to 6, 13, 7 and 8, 14
 
+-- the entry `tables`
 unfoldable pub tablesEntry : Entry (List ℕ) (List ℕ) LengthAnswer
 tablesEntry =
     record {
@@ -147,20 +158,24 @@ tablesEntry =
 
 -- ---- step: of a packet, by a file and the tables that are lent, as they are. Refusals 1 to 6, 13, 11, 12, 14, 15
 
+-- what a step is given
 pub record StepInput : Type 0 where
   pub file : List ℕ
   pub tables : List ℕ
   pub packet : Packet
   pub failure : Failure
 
+-- 15 where an entry that the step looks up is no neighbour, else 0
 unfoldable pub lookupsOf : StepInput → ℕ
 lookupsOf i =
     lookupNumber (setOf (i .file)) (lentTables (headerOf (i .file)) (i .tables)) (up (setOf (i .file)) (faultOf (i .failure))) (i .packet)
 
+-- what the step makes of the packet, in numbers
 unfoldable pub stepOf : StepInput → List ℕ
 stepOf i =
     stepValues (step (setOf (i .file)) (lentTables (headerOf (i .file)) (i .tables)) (up (setOf (i .file)) (faultOf (i .failure))) (i .packet))
 
+-- the entry `step`
 unfoldable pub stepEntry : Entry StepInput NothingLent StepAnswer
 stepEntry =
     record {
@@ -178,22 +193,27 @@ stepEntry =
 
 -- ---- run: from a source to a destination under a failure, with lent tables and a lent trail. Refusals 1 to 6, 13, 7 and 8, 11, 12, 14
 
+-- what a run is given
 pub record RunInput : Type 0 where
   pub file : List ℕ
   pub source : ℕ
   pub destination : ℕ
   pub failure : Failure
 
+-- what a run is lent
 pub record RunLent : Type 0 where
   pub tables : List ℕ
   pub trail : List ℕ
 
+-- the run
 unfoldable pub runOf : RunInput → Run
 runOf i = runUnder (setOf (i .file)) (faultOf (i .failure)) (i .source) (i .destination)
 
+-- how it ended, its hops, its last topology, and the letter of its change
 unfoldable pub runValues : Run → List ℕ
 runValues r = outcomeValue (r .outcome) ∷ hops r ∷ r .topology ∷ letter (r .kind) ∷ []
 
+-- the entry `run`
 unfoldable pub runEntry : Entry RunInput RunLent RunAnswer
 runEntry =
     record {
@@ -211,6 +231,7 @@ runEntry =
 
 -- ---- report: from a file into room for the longest text. Refusals 1 to 6, 13, 7 and 8
 
+-- the entry `report`
 unfoldable pub reportEntry : Entry (List ℕ) (List ℕ) LengthAnswer
 reportEntry =
     record {

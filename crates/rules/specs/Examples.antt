@@ -33,9 +33,11 @@ fullFour = graph 4 6 1 (0 ∷ 0 ∷ 0 ∷ 1 ∷ 1 ∷ 2 ∷ []) (1 ∷ 2 ∷ 3 �
 unfoldable pub triangleSet : Set
 triangleSet = filled triangle (1 ∷ 2 ∷ 3 ∷ [])
 
+-- "P6 has the homes of P2."
 unfoldable pub ringSet : Set
 ringSet = filled ring (1 ∷ 2 ∷ 3 ∷ 4 ∷ [])
 
+-- "homes as P4"
 unfoldable pub fullFourSet : Set
 fullFourSet = filled fullFour (1 ∷ 1 ∷ 2 ∷ 2 ∷ [])
 
@@ -65,6 +67,7 @@ ranRow S source destination failure =
 
 -- ---- the table
 
+-- what the definitions give for P1 to P12
 unfoldable pub computed : List (List ℕ)
 computed =
     builtRow triangle 3
@@ -81,6 +84,7 @@ computed =
     ∷ ranRow triangleSet 0 0 Nothing
     ∷ []
 
+-- what 01 says
 unfoldable pub expected : List (List ℕ)
 expected =
     -- P1: triangle, cap 3: homes 1, 2, 3 (a 65-byte file)

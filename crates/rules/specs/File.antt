@@ -42,6 +42,7 @@ rowStart h j = j * rowWeights h
 unfoldable pub rowBytes : Set → ℕ → List ℕ
 rowBytes S j = 0x42 ∷ 0x57 ∷ suc j ∷ flat (λ x. bytes2 (getD (S .rows) (rowStart (S .net) j + x) 0)) (rowWeights (S .net))
 
+-- the whole file: the network, the links, the homes, the rows
 unfoldable pub encode : Set → List ℕ
 encode S =
     headerBytes (S .net)
@@ -53,27 +54,35 @@ encode S =
 unfoldable pub two : List ℕ → ℕ → ℕ
 two s at = 256 * getD s at 0 + getD s (at + 1) 0
 
+-- the counts of the header
 unfoldable pub headerOf : List ℕ → Network
 headerOf s = record { n = getD s 2 0; m = two s 3; k = getD s 5 0; wmax = two s 6 }
 
+-- link l's end a
 unfoldable pub endA : List ℕ → ℕ → ℕ
 endA s l = getD s (linkPlace l + 2) 0
 
+-- link l's end b
 unfoldable pub endB : List ℕ → ℕ → ℕ
 endB s l = getD s (linkPlace l + 3) 0
 
+-- link l's weight
 unfoldable pub linkWeight : List ℕ → ℕ → ℕ
 linkWeight s l = two s (linkPlace l + 4)
 
+-- the node that home record v names
 unfoldable pub homeNode : List ℕ → Network → ℕ → ℕ
 homeNode s h v = getD s (homePlace h v + 2) 0
 
+-- the topology that home record v names: node v's home
 unfoldable pub homeTopology : List ℕ → Network → ℕ → ℕ
 homeTopology s h v = getD s (homePlace h v + 3) 0
 
+-- the topology that row record j names
 unfoldable pub rowTopology : List ℕ → Network → ℕ → ℕ
 rowTopology s h j = getD s (rowPlace h j + 2) 0
 
+-- weight x of row record j
 unfoldable pub rowWeight : List ℕ → Network → ℕ → ℕ → ℕ
 rowWeight s h j x = two s (rowPlace h j + rowHeadLength + weightLength * x)
 

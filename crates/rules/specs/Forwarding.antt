@@ -66,6 +66,7 @@ lentTables h s = record { next = λ i u t. getD s (entryPlace h i u t) 0; altern
 
 -- ---- one hop
 
+-- a packet at u, for t, in topology i
 abbrev pub packet : ℕ → ℕ → ℕ → Packet
 packet u t i = record { place = u; destination = t; topology = i }
 
@@ -114,11 +115,13 @@ alternateNumber S tables p v w = if eqb w v then need (neighbours S (p .place) (
 unfoldable pub changeNumber : Set → Tables → Packet → ℕ → ℕ → ℕ
 changeNumber S tables p v w = need (neighbours S (p .place) w) 15 (alternateNumber S tables p v w)
 
+-- v is the next hop
 unfoldable pub towardNumber : Set → Tables → (ℕ → ℕ → Bool) → Packet → ℕ → ℕ
 towardNumber S tables on p v =
     need (neighbours S (p .place) v) 15
     (if on (p .place) v || not (eqb (p .topology) 0) then 0 else changeNumber S tables p v (tables .next (home S v) (p .place) (p .destination)))
 
+-- the next hop is looked up unless the packet is at its destination
 unfoldable pub lookupNumber : Set → Tables → (ℕ → ℕ → Bool) → Packet → ℕ
 lookupNumber S tables on p =
     if eqb (p .place) (p .destination) then 0 else towardNumber S tables on p (tables .next (p .topology) (p .place) (p .destination))
@@ -134,6 +137,7 @@ pub record Run : Type 0 where
   pub place : ℕ
   pub topology : ℕ
 
+-- its hops
 unfoldable pub hops : Run → ℕ
 hops r = length (r .visited)
 
@@ -152,6 +156,7 @@ firstKind change.T rest = change.T
 firstKind change.S rest = change.S
 firstKind change.D rest = change.D
 
+-- a change of topology counts one
 unfoldable pub changed : Kind → ℕ
 changed change.Unchanged = 0
 changed change.T = 1

@@ -19,11 +19,13 @@ joins S l u w =
 unfoldable pub linkBetween : Set → ℕ → ℕ → ℕ
 linkBetween S u w = lowest (λ l. joins S l u w) (S .net .m) (S .net .m)
 
+-- u and w are neighbours
 unfoldable pub neighbours : Set → ℕ → ℕ → Bool
 neighbours S u w = ltb (linkBetween S u w) (S .net .m)
 
 -- ---- isolated nodes and the backbone
 
+-- node v's home; 0 where it has none
 unfoldable pub home : Set → ℕ → ℕ
 home S v = getD (S .homes) v 0
 
@@ -46,6 +48,7 @@ isolatedWord S i = word (isolated S i) (S .net .n)
 
 -- ---- the classes of links
 
+-- what a link is in a backup topology
 pub data Class : Type 0 where
   Isolated Restricted Normal : Class
 
@@ -56,6 +59,7 @@ classBy true false = Restricted
 classBy false true = Restricted
 classBy false false = Normal
 
+-- the class of link l in topology i
 unfoldable pub class : Set → ℕ → ℕ → Class
 class S i l = classBy (isolated S i (getD (S .a) l 0)) (isolated S i (getD (S .b) l 0))
 
@@ -86,6 +90,7 @@ weightFrom S i u l = weightBy S (class S i l) (getD (rowInForce S i) l 0)
 unfoldable pub hopWeight : Set → ℕ → ℕ → ℕ → ℕ
 hopWeight S i u w = if neighbours S u w then weightFrom S i u (linkBetween S u w) else 0
 
+-- a usable link joins u and w in topology i
 unfoldable pub usable : Set → ℕ → ℕ → ℕ → Bool
 usable S i u w = leb 1 (hopWeight S i u w)
 
@@ -104,6 +109,7 @@ unfoldable pub reached : Set → ℕ → ℕ → List Bool
 reached S i zero = upTo (λ v. eqb v (lowest (backbone S i) (S .net .n) (S .net .n))) (S .net .n)
 reached S i (suc h) = spread S i (reached S i h)
 
+-- some node is in the backbone, and each of its nodes is reached
 unfoldable pub connected : Set → ℕ → Bool
 connected S i =
     any (backbone S i) (S .net .n) && all (λ v. not (backbone S i v) || getD (reached S i (S .net .n)) v false) (S .net .n)
@@ -112,6 +118,7 @@ connected S i =
 unfoldable pub restrictedLinks : Set → ℕ → ℕ → ℕ
 restrictedLinks S i v = count (λ w. neighbours S v w && backbone S i w) (S .net .n)
 
+-- each isolated node has two restricted links or more
 unfoldable pub twoLinks : Set → ℕ → Bool
 twoLinks S i = all (λ v. not (isolated S i v) || leb 2 (restrictedLinks S i v)) (S .net .n)
 

@@ -124,6 +124,7 @@ needFailure h Nothing rest = rest
 needFailure h (Link l) rest = need (ltb l (h .m)) 11 rest
 needFailure h (Node v) rest = need (ltb v (h .n)) 11 rest
 
+-- 11 for a packet and what is down
 unfoldable pub needPacket : Network → Packet → Failure → Verdict
 needPacket h p f =
     refuse
@@ -147,6 +148,7 @@ sourceNumber u Nothing = 0
 sourceNumber u (Link l) = 0
 sourceNumber u (Node v) = if eqb v u then 12 else 0
 
+-- 12, or acceptance
 unfoldable pub needSource : ℕ → Failure → Verdict
 needSource u f = refuse (sourceNumber u f) 0
 

@@ -31,9 +31,11 @@ rowWeights h = h .m
 abbrev pub headerLength : ℕ
 headerLength = 8
 
+-- link: mark, a, b, weight
 abbrev pub linkLength : ℕ
 linkLength = 6
 
+-- home: mark, node, topology
 abbrev pub homeLength : ℕ
 homeLength = 4
 
@@ -41,9 +43,11 @@ homeLength = 4
 abbrev pub rowHeadLength : ℕ
 rowHeadLength = 3
 
+-- a weight
 abbrev pub weightLength : ℕ
 weightLength = 2
 
+-- a whole row
 unfoldable pub rowLength : Network → ℕ
 rowLength h = rowHeadLength + weightLength * rowWeights h
 
@@ -55,6 +59,7 @@ homeRecords h = need (eqb (h .k) 0) (h .n) 0
 unfoldable pub linkPlace : ℕ → ℕ
 linkPlace l = headerLength + linkLength * l
 
+-- the home record of node v
 unfoldable pub homePlace : Network → ℕ → ℕ
 homePlace h v = linkPlace (h .m) + homeLength * v
 

@@ -24,6 +24,7 @@ unfoldable pub digits : ℕ → ℕ → List ℕ
 digits zero x = (48 + x % 10) ∷ []
 digits (suc more) x = if ltb x 10 then (48 + x) ∷ [] else digits more (x / 10) ++ ((48 + x % 10) ∷ [])
 
+-- a number in decimal: twenty digits hold every number of 64 bits
 unfoldable pub decimal : ℕ → List ℕ
 decimal x = digits 19 x
 
@@ -75,6 +76,7 @@ runUnder S f u t = run S (tablesOf S) (up S f) (mostHops (S .net)) (packet u t 0
 unfoldable pub backupHops : Set → ℕ → ℕ → ℕ
 backupHops S u t = hops (runUnder S (link (detectedLink S u t)) u t)
 
+-- the hops in topology 0, with nothing down
 unfoldable pub plainHops : Set → ℕ → ℕ → ℕ
 plainHops S u t = hops (runUnder S nothing u t)
 
@@ -104,6 +106,7 @@ detectionLines S =
 unfoldable pub lastLine : Set → List ℕ
 lastLine S = 100 ∷ 101 ∷ 116 ∷ 101 ∷ 99 ∷ 116 ∷ 105 ∷ 111 ∷ 110 ∷ 115 ∷ 32 ∷ (decimal (S .net .n * (S .net .n - 1)) ++ newline)
 
+-- the whole report
 unfoldable pub reportText : Set → List ℕ
 reportText S = headerLine ++ (detectionLines S ++ lastLine S)
 

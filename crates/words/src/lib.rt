@@ -3,7 +3,6 @@
 // the definitions of 01. A node is below 32 here.
 ghost use mathlib.Core.Path.{_≡_};
 ghost use Prim.Native.Nat.{ℕ, _+_, _<_, _≤_};
-ghost use lib.Dec.{leb};
 ghost use lib.Count.{ones};
 ghost use Rattle.words.specs.Word.{has, both, either, minus, only, adding, removing, firsts, lowestIn, put};
 
@@ -87,11 +86,4 @@ pub fn put(t: bool, w: u32, v: u8) -> u32
         return adding(w, v);
     }
     w
-}
-
-// Two or more are in it.
-pub fn two(w: u32) -> bool
-    ensures { λ r. ⌜ r ≡ leb 2 (ones w) ⌝ }
-{
-    u32::count_ones(w) >= 2
 }

@@ -12,8 +12,8 @@ word-at-requires c κs = search needs
 both-requires : tie.Need-both-requires
 both-requires c κs = search needs
 
-two-requires : tie.Need-two-requires
-two-requires c κs = search needs
+size-requires : tie.Need-size-requires
+size-requires c κs = search needs
 
 returns : tie.Need-returns
 returns c = search served-in
@@ -23,4 +23,5 @@ returns-2 c = search served-out
 
 pub served-spec : {M : Type 1} → statement M
 served-spec =
-    tie.close (tie.spec has-requires word-at-requires both-requires two-requires returns returns-2)
+    tie.close
+    (tie.spec has-requires word-at-requires both-requires size-requires returns returns-2)

@@ -1,4 +1,4 @@
-use Rattle.forwarding.proofs.Orders.{stepping}
+use Rattle.forwarding.proofs.Stepping.{stepping}
 use Rattle.forwarding.proofs.step.Statement.{statement}
 use Rattle.forwarding.proofs.step.Tie as tie
 use Rattle.forwarding.proofs.step.Reads as reads

@@ -1,16 +1,16 @@
-use Rattle.forwarding.proofs.Orders.{stepping}
+use Rattle.forwarding.proofs.Stepping.{stepping}
 use Rattle.forwarding.proofs.step_rest.Statement.{statement}
 use Rattle.forwarding.proofs.step_rest.Tie as tie
 use Rattle.forwarding.proofs.step_rest.Reads as reads
 use Rattle.forwarding.proofs.step_rest.Lts as lts
 use Rattle.forwarding.proofs.hop.lookup_number.Reads as lookup-number-reads
-use Rattle.forwarding.proofs.order.need_packet.Reads as need-packet-reads
-use Rattle.forwarding.proofs.order.need_room.Reads as need-room-reads
-use Rattle.forwarding.proofs.order.need_set.Reads as need-set-reads
-use Rattle.forwarding.proofs.order.need_source.Reads as need-source-reads
-use Rattle.forwarding.proofs.order.refuse.Reads as refuse-reads
-use Rattle.forwarding.proofs.order.tables_length.Reads as tables-length-reads
-use Rattle.forwarding.proofs.order.then.Reads as then-reads
+use Rattle.order.proofs.need_packet.Reads as need-packet-reads
+use Rattle.order.proofs.need_room.Reads as need-room-reads
+use Rattle.order.proofs.need_set.Reads as need-set-reads
+use Rattle.order.proofs.need_source.Reads as need-source-reads
+use Rattle.order.proofs.refuse.Reads as refuse-reads
+use Rattle.order.proofs.tables_length.Reads as tables-length-reads
+use Rattle.order.proofs.then.Reads as then-reads
 
 -- src/lib.rt:35:9
 need-set-requires : tie.Need-need-set-requires

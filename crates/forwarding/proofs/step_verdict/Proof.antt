@@ -1,4 +1,4 @@
-use Rattle.forwarding.proofs.Orders.{stepping}
+use Rattle.forwarding.proofs.Stepping.{stepping}
 use Rattle.forwarding.proofs.step_verdict.Statement.{statement}
 use Rattle.forwarding.proofs.step_verdict.Tie as tie
 use Rattle.forwarding.proofs.step_verdict.Reads as reads

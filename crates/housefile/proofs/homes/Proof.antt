@@ -2,16 +2,17 @@ use mathlib.Core.Path.{_≡_}
 use Prim.Native.Nat.{_-_, _≤_}
 use native.Mathlib.Omega.{arith}
 use borrow.Author.Needs.{needs}
-use Rattle.rules.proofs.Choices.{turn-done, turn-none}
+use Rattle.rules.proofs.Choices.{turn-none}
 use Rattle.rules.specs.declared.Verdict.the-variants.{Accepted}
-use Rattle.rules.specs.Judgement.{inTurn}
-use Rattle.housefile.specs.Rules.{homeVerdict}
+use Rattle.rules.specs.Limits.{homePlace}
+use Rattle.rules.specs.Judgement.{inTurn, homeNumber}
+use Rattle.housefile.specs.Rules.{judged}
 use Rattle.housefile.proofs.InTurn.{home-turns}
 use Rattle.housefile.proofs.homes.Statement.{statement}
 use Rattle.housefile.proofs.homes.Tie as tie
 
 abbrev Inv-loop : tie.InvT-loop
-Inv-loop file net count v₀ v = (v ≤ count) × (inTurn (homeVerdict file net) v ≡ Accepted)
+Inv-loop file net count v₀ v = (v ≤ count) × (inTurn (judged (homeNumber file net) (homePlace net)) v ≡ Accepted)
 
 abbrev μ-loop : tie.MeasureT-loop
 μ-loop file net count v₀ v = count - v
@@ -59,7 +60,7 @@ loop-again : tie.Need-loop-again Inv-loop μ-loop
 loop-again c = (omega arith, search home-turns)
 
 returns-2 : tie.Need-returns-2 Inv-loop μ-loop
-returns-2 c = search turn-done
+returns-2 c = search home-turns
 
 pub homes-spec : {M : Type 1} → statement M
 homes-spec =

@@ -2,16 +2,17 @@ use mathlib.Core.Path.{_≡_}
 use Prim.Native.Nat.{_-_, _≤_}
 use native.Mathlib.Omega.{arith}
 use borrow.Author.Needs.{needs}
-use Rattle.rules.proofs.Choices.{turn-done, turn-none}
+use Rattle.rules.proofs.Choices.{turn-none}
 use Rattle.rules.specs.declared.Verdict.the-variants.{Accepted}
-use Rattle.rules.specs.Judgement.{inTurn}
-use Rattle.housefile.specs.Rules.{linkVerdict}
+use Rattle.rules.specs.Limits.{linkPlace}
+use Rattle.rules.specs.Judgement.{inTurn, linkNumber}
+use Rattle.housefile.specs.Rules.{judged}
 use Rattle.housefile.proofs.InTurn.{Ranked, link-turns, ranked-none}
 use Rattle.housefile.proofs.links.Statement.{statement}
 use Rattle.housefile.proofs.links.Tie as tie
 
 abbrev Inv-loop : tie.InvT-loop
-Inv-loop file net m last₀ l₀ last l = (l ≤ m) × (inTurn (linkVerdict file net) l ≡ Accepted) × Ranked file l last
+Inv-loop file net m last₀ l₀ last l = (l ≤ m) × (inTurn (judged (linkNumber file net) linkPlace) l ≡ Accepted) × Ranked file l last
 
 abbrev μ-loop : tie.MeasureT-loop
 μ-loop file net m last₀ l₀ last l = m - l
@@ -62,7 +63,7 @@ loop-again : tie.Need-loop-again Inv-loop μ-loop
 loop-again c = (omega arith, search link-turns, search link-turns)
 
 returns-2 : tie.Need-returns-2 Inv-loop μ-loop
-returns-2 c = search turn-done
+returns-2 c = search link-turns
 
 pub links-spec : {M : Type 1} → statement M
 links-spec =

@@ -2,16 +2,17 @@ use mathlib.Core.Path.{_≡_}
 use Prim.Native.Nat.{_-_, _≤_}
 use native.Mathlib.Omega.{arith}
 use borrow.Author.Needs.{needs}
-use Rattle.rules.proofs.Choices.{turn-done, turn-none}
+use Rattle.rules.proofs.Choices.{turn-none}
 use Rattle.rules.specs.declared.Verdict.the-variants.{Accepted}
-use Rattle.rules.specs.Judgement.{inTurn}
-use Rattle.housefile.specs.Rules.{rowVerdict}
+use Rattle.rules.specs.Limits.{rowPlace}
+use Rattle.rules.specs.Judgement.{inTurn, rowNumber}
+use Rattle.housefile.specs.Rules.{judged}
 use Rattle.housefile.proofs.InTurn.{row-turns}
 use Rattle.housefile.proofs.rows.Statement.{statement}
 use Rattle.housefile.proofs.rows.Tie as tie
 
 abbrev Inv-loop : tie.InvT-loop
-Inv-loop file net k j₀ j = (j ≤ k) × (inTurn (rowVerdict file net) j ≡ Accepted)
+Inv-loop file net k j₀ j = (j ≤ k) × (inTurn (judged (rowNumber file net) (rowPlace net)) j ≡ Accepted)
 
 abbrev μ-loop : tie.MeasureT-loop
 μ-loop file net k j₀ j = k - j
@@ -41,7 +42,7 @@ loop-again : tie.Need-loop-again Inv-loop μ-loop
 loop-again c = (omega arith, search row-turns)
 
 returns-2 : tie.Need-returns-2 Inv-loop μ-loop
-returns-2 c = search turn-done
+returns-2 c = search row-turns
 
 pub rows-spec : {M : Type 1} → statement M
 rows-spec =

@@ -5,7 +5,7 @@ use Rattle.report.proofs.report.Reads as reads
 use Rattle.report.proofs.report.Lts as lts
 use Rattle.report.proofs.report_by.Reads as report-by-reads
 use Rattle.report.proofs.tables_room.Reads as tables-room-reads
-use Rattle.tables.proofs.tables.Reads as tables-reads
+use Rattle.filetables.proofs.tables.Reads as tables-reads
 
 -- src/lib.rt:47:20
 tables-room-requires : tie.Need-tables-room-requires
@@ -17,7 +17,7 @@ slice-aggregate-tables c = search needs
 
 -- src/lib.rt:48:9
 tables-requires : tie.Need-tables-requires
-tables-requires c κs = ?
+tables-requires c κs = search needs
 
 -- src/lib.rt:49:27
 slice-aggregate-report-by : tie.Need-slice-aggregate-report-by

@@ -4,8 +4,8 @@ use Rattle.forwarding.proofs.hop.entry.Statement.{statement}
 use Rattle.forwarding.proofs.hop.entry.Tie as tie
 use Rattle.forwarding.proofs.hop.entry.Reads as reads
 use Rattle.forwarding.proofs.hop.entry.Lts as lts
-use Rattle.forwarding.proofs.order.square.Reads as square-reads
-use Rattle.forwarding.proofs.order.times.Reads as times-reads
+use Rattle.order.proofs.square.Reads as square-reads
+use Rattle.order.proofs.times.Reads as times-reads
 use Rattle.housefile.proofs.byte.Reads as byte-reads
 
 -- src/hop.rt:132:26

@@ -1,4 +1,3 @@
-use Rattle.rules.specs.Demands.{needs}
 use Rattle.rules.specs.Forwarding.{hops, trail}
 use Prim.Native.Nat.{_-_}
 use Rattle.forwarding.proofs.Trips.{Travelling, travelling}

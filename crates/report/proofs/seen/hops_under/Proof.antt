@@ -1,3 +1,4 @@
+use Rattle.rules.specs.Limits.{mostHops}
 use Rattle.report.proofs.Seens.{seens}
 use borrow.Author.Needs.{needs}
 use Rattle.report.proofs.seen.hops_under.Statement.{statement}
@@ -5,7 +6,7 @@ use Rattle.report.proofs.seen.hops_under.Tie as tie
 use Rattle.report.proofs.seen.hops_under.Reads as reads
 use Rattle.report.proofs.seen.hops_under.Lts as lts
 use Rattle.forwarding.proofs.travel.travel.Reads as travel-reads
-use Rattle.report.proofs.seen.most_hops.Reads as most-hops-reads
+use Rattle.order.proofs.most_hops.Reads as most-hops-reads
 use Rattle.report.proofs.seen.trail_room.Reads as trail-room-reads
 
 -- src/seen.rt:88:9
@@ -22,6 +23,7 @@ slice-aggregate-travel c = search needs
 
 -- src/seen.rt:90:9
 travel-requires : tie.Need-travel-requires
+unfolding mostHops
 travel-requires c κs = search needs
 
 -- src/seen.rt:78:1

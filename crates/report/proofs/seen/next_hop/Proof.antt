@@ -4,7 +4,7 @@ use Rattle.report.proofs.seen.next_hop.Statement.{statement}
 use Rattle.report.proofs.seen.next_hop.Tie as tie
 use Rattle.report.proofs.seen.next_hop.Reads as reads
 use Rattle.report.proofs.seen.next_hop.Lts as lts
-use Rattle.forwarding.proofs.order.times.Reads as times-reads
+use Rattle.order.proofs.times.Reads as times-reads
 use Rattle.housefile.proofs.byte.Reads as byte-reads
 
 -- src/seen.rt:36:33

@@ -1,0 +1,211 @@
+-- What the builder answers and leaves, verdict by verdict.
+use mathlib.Core.Path.{_≡_, refl, sym, ap, ap₂, subst, _∙_}
+use mathlib.Core.Bool.{Bool, true, false}
+use mathlib.Core.List.{List, [], _∷_}
+use Prim.Native.Nat.{ℕ, zero, suc, _+_, _-_, _≤_, _<_}
+use native.Mathlib.Omega.{arith}
+use lib.Dec.{eqb, leb}
+use lib.ListN.{length, getD, take, replicate, length-replicate}
+use Rattle.rules.specs.declared.Network.{Network}
+use Rattle.rules.specs.declared.Verdict.{Verdict}
+use Rattle.rules.specs.declared.Verdict.the-variants.{Accepted, Refused}
+use Rattle.rules.specs.declared.LengthAnswer.{LengthAnswer}
+use Rattle.rules.specs.declared.LengthAnswer.the-variants as long
+use Rattle.rules.specs.Basics.{need, all, laid}
+use Rattle.rules.specs.Limits.{fileLength}
+use Rattle.rules.specs.File.{Set, setOf, headerOf, encode}
+use Rattle.rules.specs.Building.{fits, firstFit, highest, filled, built, spared, buildNumber}
+use Rattle.rules.specs.Judgement.{refuse, andThen, judge, needGraph, needCap, needFit, needRoom}
+use Rattle.rules.specs.Answers.{tell, lengthTells}
+use Rattle.rules.specs.Entries.{Promise, onAccept, builtFrom, buildEntry}
+use Rattle.rules.proofs.Choices.{need-yes, need-no, need-le, need-le-no, need-eq, need-eq-no, refuse-no, refuse-ok, refuse-zero, need-ok, then-ok, then-no, then-first, then-second, then-on, then-stop}
+use Rattle.rules.proofs.Held.{net-held}
+use Rattle.checker.specs.Graph.{neighbourWords}
+use Rattle.checker.proofs.Same.{WordsOf}
+use Rattle.checker.proofs.Graph.{words-of, accepted-few}
+use Rattle.builder.specs.Fit.{allSpared, Placed}
+use Rattle.builder.specs.Stores.{storedSet}
+use Rattle.builder.specs.Answer.{Gives}
+use Rattle.builder.proofs.Written.{written-is}
+use Rattle.builder.proofs.Fitted.{all-spared-same, passed-cap, all-placed, placed-homes}
+
+-- ---- the two ways of an answer
+
+gives-refused : (v : Verdict) (S : Set) (d : List ℕ) (number place : ℕ) → v ≡ Refused number place → Gives v S d (long.Refused number place) d
+unfolding lengthTells tell onAccept
+gives-refused v S d number place e = rw e (record { answer = refl; lent = refl })
+
+gives-length : (v : Verdict) (S : Set) (d f : List ℕ) (bytes : ℕ) → v ≡ Accepted → bytes ≡ fileLength (S .net) → f ≡ laid (encode S) d → Gives v S d (long.Length bytes) f
+unfolding lengthTells tell onAccept
+gives-length v S d f bytes e b l = rw e (record { answer = ap (λ (x : ℕ). lengthTells (long.Length x)) b; lent = l })
+
+gives-on : (v w : Verdict) (S : Set) (d : List ℕ) (r : LengthAnswer) (f : List ℕ) → v ≡ Accepted → Gives w S d r f → Gives (andThen v w) S d r f
+gives-on v w S d r f e g = rw (then-ok v w e) g
+
+refuses : (number : ℕ) → (number ≡ 0 → ⊥) → refuse number 0 ≡ Refused number 0
+refuses number h = sym (refuse-no number 0 h)
+
+-- ---- finish
+
+module _ (s homes d : List ℕ) (net set : Network) (k bytes : ℕ) (en : net ≡ headerOf s) (el : length homes ≡ net .n) (ek : k ≡ highest homes (length homes))
+    (es : set ≡ record { n = net .n; m = net .m; k = k; wmax = net .wmax }) (eb : bytes ≡ fileLength set) where
+  set-is : set ≡ filled (setOf s) homes .net
+  unfolding filled setOf
+  set-is = es ∙ rw (ek, el, en)
+
+  long-is : bytes ≡ fileLength (filled (setOf s) homes .net)
+  long-is = eb ∙ ap fileLength set-is
+
+  pub no-room : length d < bytes → Gives (needRoom (fileLength (filled (setOf s) homes .net)) d) (filled (setOf s) homes) d (long.Refused 14 0) d
+  unfolding needRoom
+  no-room h =
+      let e = long-is in
+      gives-refused (refuse (need (leb (fileLength (filled (setOf s) homes .net)) (length d)) 14 0) 0) (filled (setOf s) homes) d 14 0
+      (ap (λ (x : ℕ). refuse x 0) (sym (need-le-no (fileLength (filled (setOf s) homes .net)) (length d) 14 0 14 (omega arith) refl)) ∙ refuses 14 (λ z. omega arith))
+
+  pub room : (f : List ℕ) → bytes ≤ length d → f ≡ storedSet s homes set d → Gives (needRoom (fileLength (filled (setOf s) homes .net)) d) (filled (setOf s) homes) d (long.Length bytes) f
+  unfolding needRoom
+  room f h ef =
+      let e = long-is in
+      gives-length (refuse (need (leb (fileLength (filled (setOf s) homes .net)) (length d)) 14 0) 0) (filled (setOf s) homes) d f bytes
+      (sym (refuse-ok (need (leb (fileLength (filled (setOf s) homes .net)) (length d)) 14 0) 0 (sym (need-le (fileLength (filled (setOf s) homes .net)) (length d) 14 0 0 (omega arith) refl))))
+      long-is (ef ∙ written-is s homes d set set-is (rw (← eb) h))
+
+-- ---- fit
+
+words-are : (s nb : List ℕ) (net : Network) → judge s ≡ Accepted → net ≡ headerOf s → nb ≡ neighbourWords s (net .m) → WordsOf (setOf s) nb
+words-are s nb net a en eb = rw (eb, en) (words-of s (accepted-few s a))
+
+module _ (s nb homes d : List ℕ) (net : Network) (cap r : ℕ) (a : judge s ≡ Accepted) (en : net ≡ headerOf s) (eb : nb ≡ neighbourWords s (net .m))
+    (P : Placed nb (net .n) cap homes r) where
+  placed-is : Placed nb (setOf s .net .n) cap homes r
+  unfolding setOf
+  placed-is = subst (λ (h : Network). Placed nb (h .n) cap homes r) en P
+
+  pub cap-passed : (v : Verdict) (S : Set) → r < net .n → Gives (andThen (refuse (need (fits (setOf s) cap) 10 0) 0) v) S d (long.Refused 10 0) d
+  cap-passed v S h =
+      let h′ : r < setOf s .net .n = subst (λ (x : Network). r < x .n) (en ∙ sym (net-held s)) h in
+      let q = passed-cap (setOf s) nb (words-are s nb net a en eb) cap homes r placed-is h′ in
+      gives-refused (andThen (refuse (need (fits (setOf s) cap) 10 0) 0) v) S d 10 0
+      (then-no (refuse (need (fits (setOf s) cap) 10 0) 0) v 10 0 (ap (λ (x : ℕ). refuse x 0) (sym (need-no (fits (setOf s) cap) 10 0 10 q refl)) ∙ refuses 10 (λ z. omega arith)))
+
+  pub cap-kept : (w : LengthAnswer) (f : List ℕ) → net .n ≤ r → Gives (needRoom (fileLength (filled (setOf s) homes .net)) d) (filled (setOf s) homes) d w f
+      → Gives (andThen (refuse (need (fits (setOf s) cap) 10 0) 0) (needRoom (fileLength (built (setOf s) cap .net)) d)) (built (setOf s) cap) d w f
+  unfolding built
+  cap-kept w f h g =
+      let h′ : setOf s .net .n ≤ r = subst (λ (x : Network). x .n ≤ r) (en ∙ sym (net-held s)) h in
+      let q = all-placed (setOf s) nb (words-are s nb net a en eb) cap homes r placed-is h′ in
+      let e = placed-homes (setOf s) nb (words-are s nb net a en eb) cap homes r placed-is h′ in
+      gives-on (refuse (need (fits (setOf s) cap) 10 0) 0) (needRoom (fileLength (filled (setOf s) (firstFit (setOf s) cap) .net)) d) (filled (setOf s) (firstFit (setOf s) cap)) d w f
+      (sym (refuse-ok (need (fits (setOf s) cap) 10 0) 0 (sym (need-yes (fits (setOf s) cap) 10 0 0 q refl))))
+      (subst (λ (x : List ℕ). Gives (needRoom (fileLength (filled (setOf s) x .net)) d) (filled (setOf s) x) d w f) e g)
+
+-- ---- build_graph
+
+module _ (s nb d : List ℕ) (net : Network) (cap : ℕ) (t : Bool) (a : judge s ≡ Accepted) (en : net ≡ headerOf s) (eb : nb ≡ neighbourWords s (net .m))
+    (et : t ≡ allSpared nb (net .n) (net .n)) where
+  spared-is : t ≡ all (spared (setOf s)) (setOf s .net .n)
+  spared-is = et ∙ subst (λ (h : Network). allSpared nb (h .n) (h .n) ≡ allSpared nb (setOf s .net .n) (setOf s .net .n)) (sym (en ∙ sym (net-held s))) refl ∙ all-spared-same (setOf s) nb (words-are s nb net a en eb)
+
+  pub not-spared : (v : Verdict) (S : Set) → t ≡ false → Gives (andThen (needFit (setOf s) cap) v) S d (long.Refused 9 0) d
+  unfolding needFit buildNumber
+  not-spared v S h =
+      gives-refused (andThen (needFit (setOf s) cap) v) S d 9 0
+      (then-no (needFit (setOf s) cap) v 9 0
+      (ap (λ (x : ℕ). refuse x 0) (sym (need-no (all (spared (setOf s)) (setOf s .net .n)) 9 (need (fits (setOf s) cap) 10 0) 9 (sym spared-is ∙ h) refl)) ∙ refuses 9 (λ z. omega arith)))
+
+  pub spared-all : (v : Verdict) (S : Set) (w : LengthAnswer) (f : List ℕ) → t ≡ true → Gives (andThen (refuse (need (fits (setOf s) cap) 10 0) 0) v) S d w f
+      → Gives (andThen (needFit (setOf s) cap) v) S d w f
+  unfolding needFit buildNumber
+  spared-all v S w f h g =
+      subst (λ (x : ℕ). Gives (andThen (refuse x 0) v) S d w f)
+      (need-yes (all (spared (setOf s)) (setOf s .net .n)) 9 (need (fits (setOf s) cap) 10 0) (need (fits (setOf s) cap) 10 0) (sym spared-is ∙ h) refl) g
+
+-- ---- build
+
+then-assoc : (u v w x : Verdict) → andThen u (andThen v (andThen w x)) ≡ andThen (andThen u (andThen v w)) x
+unfolding andThen
+then-assoc Accepted Accepted w x = refl
+then-assoc Accepted (Refused number place) w x = refl
+then-assoc (Refused number place) v w x = refl
+
+module _ (s d f : List ℕ) (cap : ℕ) (r : LengthAnswer) where
+  promised : Gives (andThen (andThen (judge s) (andThen (needGraph (headerOf s)) (needCap cap))) (andThen (needFit (setOf s) cap) (needRoom (fileLength (built (setOf s) cap .net)) d))) (built (setOf s) cap) d r f
+      → Promise buildEntry (record { file = s; cap = cap }) d r f
+  unfolding buildEntry builtFrom
+  promised g =
+      let e = then-assoc (judge s) (needGraph (headerOf s)) (needCap cap) (andThen (needFit (setOf s) cap) (needRoom (fileLength (built (setOf s) cap .net)) d)) in
+      record {
+        answer = g .answer ∙ ap (λ (v : Verdict). tell v (fileLength (built (setOf s) cap .net) ∷ [])) (sym e);
+        lent = g .lent ∙ ap (λ (v : Verdict). onAccept v (laid (encode (built (setOf s) cap)) d) d) (sym e);
+      }
+
+  pub build-on : (v : Verdict) → v ≡ Accepted → v ≡ andThen (judge s) (andThen (needGraph (headerOf s)) (needCap cap))
+      → Gives (andThen (needFit (setOf s) cap) (needRoom (fileLength (built (setOf s) cap .net)) d)) (built (setOf s) cap) d r f → Promise buildEntry (record { file = s; cap = cap }) d r f
+  build-on v t e g = promised (gives-on (andThen (judge s) (andThen (needGraph (headerOf s)) (needCap cap))) _ (built (setOf s) cap) d r f (sym e ∙ t) g)
+
+pub build-stop : (s d : List ℕ) (cap : ℕ) (v : Verdict) (number place : ℕ) → v ≡ Refused number place → v ≡ andThen (judge s) (andThen (needGraph (headerOf s)) (needCap cap))
+    → Promise buildEntry (record { file = s; cap = cap }) d (long.Refused number place) d
+build-stop s d cap v number place t e =
+    promised s d d cap (long.Refused number place)
+    (gives-refused (andThen (andThen (judge s) (andThen (needGraph (headerOf s)) (needCap cap))) (andThen (needFit (setOf s) cap) (needRoom (fileLength (built (setOf s) cap .net)) d))) (built (setOf s) cap) d number place
+    (then-no (andThen (judge s) (andThen (needGraph (headerOf s)) (needCap cap))) _ number place (sym e ∙ t)))
+
+pub judged : (s : List ℕ) (cap : ℕ) (v : Verdict) → v ≡ Accepted → v ≡ andThen (judge s) (andThen (needGraph (headerOf s)) (needCap cap)) → judge s ≡ Accepted
+judged s cap v t e = then-first (judge s) (andThen (needGraph (headerOf s)) (needCap cap)) (sym e ∙ t)
+
+pub cap-most : (s : List ℕ) (cap : ℕ) (v : Verdict) → v ≡ Accepted → v ≡ andThen (judge s) (andThen (needGraph (headerOf s)) (needCap cap)) → cap ≤ 32
+unfolding needCap
+cap-most s cap v t e =
+    let a = then-second (needGraph (headerOf s)) (needCap cap) (then-second (judge s) (andThen (needGraph (headerOf s)) (needCap cap)) (sym e ∙ t)) in
+    let p = need-ok (leb 1 cap) 10 (need (leb cap 32) 11 0) (refuse-zero (need (leb 1 cap) 11 (need (leb cap 32) 11 0)) 0 a) in
+    borrow.Author.Tests.leb-true cap 32 (need-ok (leb cap 32) 10 0 (p .1) .0)
+
+-- ---- the verdicts before it
+
+pub input-on : (s : List ℕ) (h : Network) (cap : ℕ) (v w : Verdict) → v ≡ Accepted → v ≡ judge s → h ≡ headerOf s → w ≡ andThen (needGraph h) (needCap cap)
+    → w ≡ andThen (judge s) (andThen (needGraph (headerOf s)) (needCap cap))
+input-on s h cap v w t e eh d = then-on v w (judge s) (andThen (needGraph (headerOf s)) (needCap cap)) t e (d ∙ ap (λ (x : Network). andThen (needGraph x) (needCap cap)) eh)
+
+refuse-is : (number rest : ℕ) → (number ≡ 0 → ⊥) → number ≡ rest → refuse rest 0 ≡ Refused number 0
+refuse-is number rest h e = ap (λ (x : ℕ). refuse x 0) (sym e) ∙ refuses number h
+
+pub no-graph : (h : Network) (cap : ℕ) → (h .k ≡ 0 → ⊥) → Refused 13 0 ≡ andThen (needGraph h) (needCap cap)
+unfolding needGraph
+no-graph h cap z = sym (then-no (needGraph h) (needCap cap) 13 0 (refuse-is 13 (need (eqb (h .k) 0) 13 0) (λ q. omega arith) (need-eq-no (h .k) 0 13 0 13 z refl)))
+
+module _ (h : Network) (cap : ℕ) (z : h .k ≡ 0) where
+  graph-ok : needGraph h ≡ Accepted
+  unfolding needGraph
+  graph-ok = sym (refuse-ok (need (eqb (h .k) 0) 13 0) 0 (sym (need-eq (h .k) 0 13 0 0 z refl)))
+
+  pub cap-low : cap < 1 → Refused 11 0 ≡ andThen (needGraph h) (needCap cap)
+  unfolding needCap
+  cap-low l =
+      sym (then-ok (needGraph h) (needCap cap) graph-ok
+      ∙ refuse-is 11 (need (leb 1 cap) 11 (need (leb cap 32) 11 0)) (λ q. omega arith) (need-le-no 1 cap 11 (need (leb cap 32) 11 0) 11 l refl))
+
+  pub cap-high : 1 ≤ cap → 32 < cap → Refused 11 0 ≡ andThen (needGraph h) (needCap cap)
+  unfolding needCap
+  cap-high l g =
+      sym (then-ok (needGraph h) (needCap cap) graph-ok
+      ∙ refuse-is 11 (need (leb 1 cap) 11 (need (leb cap 32) 11 0)) (λ q. omega arith) (need-le 1 cap 11 (need (leb cap 32) 11 0) 11 l (need-le-no cap 32 11 0 11 g refl)))
+
+  pub cap-ok : 1 ≤ cap → cap ≤ 32 → Accepted ≡ andThen (needGraph h) (needCap cap)
+  unfolding needCap
+  cap-ok l g =
+      sym (then-ok (needGraph h) (needCap cap) graph-ok
+      ∙ sym (refuse-ok (need (leb 1 cap) 11 (need (leb cap 32) 11 0)) 0 (sym (need-le 1 cap 11 (need (leb cap 32) 11 0) 0 l (need-le cap 32 11 0 0 g refl)))))
+
+-- ---- the room for the homes
+
+take-same : (n m x : ℕ) → n ≤ m → take n (replicate m x) ≡ replicate n x
+take-same zero m x h = refl
+take-same (suc n) zero x h = absurd (omega arith)
+take-same (suc n) (suc m) x h = ap (λ (l : List ℕ). x ∷ l) (take-same n m x (omega arith))
+
+pub none-placed : (n : ℕ) → n ≤ 32 → take {A = ℕ} n (replicate 32 0) ≡ replicate n 0
+none-placed n h = take-same n 32 0 h
+
+pub part-long : (n : ℕ) → n ≤ 32 → n ≡ length {A = ℕ} (take n (replicate 32 0))
+part-long n h = sym (ap length (take-same n 32 0 h) ∙ length-replicate n 0)

@@ -1,0 +1,37 @@
+use Rattle.builder.proofs.Answers.{no-room, room}
+use borrow.Author.Needs.{needs}
+use Rattle.builder.proofs.finish.Statement.{statement}
+use Rattle.builder.proofs.finish.Tie as tie
+
+highest-requires : tie.Need-highest-requires
+highest-requires c κs = search needs
+
+header-requires : tie.Need-header-requires
+header-requires c κs = search needs
+
+file-length-requires : tie.Need-file-length-requires
+file-length-requires c κs = search needs
+
+returns : tie.Need-returns
+returns c = search no-room
+
+put-set-requires : tie.Need-put-set-requires
+put-set-requires c κs = search needs
+
+same-length : tie.Need-same-length
+same-length c = search needs
+
+returns-2 : tie.Need-returns-2
+returns-2 c = search room
+
+pub finish-spec : {M : Type 1} → statement M
+finish-spec =
+    tie.close
+    (tie.spec
+    highest-requires
+    header-requires
+    file-length-requires
+    returns
+    put-set-requires
+    same-length
+    returns-2)

@@ -1,0 +1,49 @@
+use Rattle.builder.proofs.Stored.{weight-a, weight-b, weight-normal}
+use borrow.Author.Needs.{needs}
+use Rattle.builder.proofs.store.weight_in.Statement.{statement}
+use Rattle.builder.proofs.store.weight_in.Tie as tie
+
+end-a-requires : tie.Need-end-a-requires
+end-a-requires c κs = search needs
+
+cast-byte : tie.Need-cast-byte
+cast-byte c = search needs
+
+byte-requires : tie.Need-byte-requires
+byte-requires c κs = search needs
+
+returns : tie.Need-returns
+returns c = search weight-a
+
+end-b-requires : tie.Need-end-b-requires
+end-b-requires c κs = search needs
+
+cast-byte-2 : tie.Need-cast-byte-2
+cast-byte-2 c = search needs
+
+byte-requires-2 : tie.Need-byte-requires-2
+byte-requires-2 c κs = search needs
+
+returns-2 : tie.Need-returns-2
+returns-2 c = search weight-b
+
+link-weight-requires : tie.Need-link-weight-requires
+link-weight-requires c κs = search needs
+
+returns-3 : tie.Need-returns-3
+returns-3 c = search weight-normal
+
+pub weight-in-spec : {M : Type 1} → statement M
+weight-in-spec =
+    tie.close
+    (tie.spec
+    end-a-requires
+    cast-byte
+    byte-requires
+    returns
+    end-b-requires
+    cast-byte-2
+    byte-requires-2
+    returns-2
+    link-weight-requires
+    returns-3)

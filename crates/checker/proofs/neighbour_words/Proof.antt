@@ -1,0 +1,64 @@
+use Prim.Native.Nat.{_-_, _≤_}
+use Rattle.checker.proofs.Files.{a-low, b-low, linked-done, linked-more, linked-none}
+use Rattle.checker.specs.Graph.{neighbourWords}
+use borrow.Author.Needs.{needs}
+use mathlib.Core.Path.{_≡_}
+use Rattle.checker.proofs.neighbour_words.Statement.{statement}
+use Rattle.checker.proofs.neighbour_words.Tie as tie
+
+abbrev Inv-loop : tie.InvT-loop
+Inv-loop file m nb₀ l₀ nb l = (l ≤ m) × (nb ≡ neighbourWords file l)
+
+abbrev μ-loop : tie.MeasureT-loop
+μ-loop file m nb₀ l₀ nb l = m - l
+
+loop-holds : tie.Need-loop-holds Inv-loop μ-loop
+loop-holds c = (search needs, search linked-none)
+
+cast-end-a : tie.Need-cast-end-a Inv-loop μ-loop
+cast-end-a c = search needs
+
+end-a-requires : tie.Need-end-a-requires Inv-loop μ-loop
+end-a-requires c κs = search needs
+
+cast-end-b : tie.Need-cast-end-b Inv-loop μ-loop
+cast-end-b c = search needs
+
+end-b-requires : tie.Need-end-b-requires Inv-loop μ-loop
+end-b-requires c κs = search needs
+
+enter-requires : tie.Need-enter-requires Inv-loop μ-loop
+enter-requires c κs = (search a-low, search b-low)
+
+enter-requires-2 : tie.Need-enter-requires-2 Inv-loop μ-loop
+enter-requires-2 c κs = (search b-low, search a-low)
+
+add-l : tie.Need-add-l Inv-loop μ-loop
+add-l c = search needs
+
+loop-less : tie.Need-loop-less Inv-loop μ-loop
+loop-less c = search needs
+
+loop-again : tie.Need-loop-again Inv-loop μ-loop
+loop-again c = (search needs, search linked-more)
+
+returns : tie.Need-returns Inv-loop μ-loop
+returns c = search linked-done
+
+pub neighbour-words-spec : {M : Type 1} → statement M
+neighbour-words-spec =
+    tie.close
+    (tie.spec
+    Inv-loop
+    μ-loop
+    loop-holds
+    cast-end-a
+    end-a-requires
+    cast-end-b
+    end-b-requires
+    enter-requires
+    enter-requires-2
+    add-l
+    loop-less
+    loop-again
+    returns)

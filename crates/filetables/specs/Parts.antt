@@ -1,0 +1,38 @@
+-- Lists of the right lengths, and the entry's verdict.
+use mathlib.Core.Path.{_≡_}
+use mathlib.Core.List.{List}
+use Prim.Native.Nat.{ℕ, _*_, _≤_}
+use lib.Dec.{leb}
+use lib.ListN.{length}
+use Rattle.rules.specs.declared.Network.{Network}
+use Rattle.rules.specs.declared.Verdict.{Verdict}
+use Rattle.rules.specs.declared.Verdict.the-variants.{Accepted}
+use Rattle.rules.specs.Basics.{need}
+use Rattle.rules.specs.Limits.{homeRecords, rowWeights, tablesLength}
+use Rattle.rules.specs.File.{headerOf, setOf}
+use Rattle.rules.specs.Judgement.{refuse, andThen, check}
+use Rattle.rules.specs.Entries.{Lists, setWith}
+
+-- lists that are exactly as long as a set's counts say
+pub record Exact (h : Network) (d : Lists) : Type 0 where
+  pub a : length (d .a) ≡ h .m
+  pub b : length (d .b) ≡ h .m
+  pub weights : length (d .weights) ≡ h .m
+  pub homes : length (d .homes) ≡ h .n
+  pub rows : length (d .rows) ≡ h .k * rowWeights h
+
+-- lists that are long enough for every set
+pub record Wide (d : Lists) : Type 0 where
+  pub a : 128 ≤ length (d .a)
+  pub b : 128 ≤ length (d .b)
+  pub weights : 128 ≤ length (d .weights)
+  pub homes : 32 ≤ length (d .homes)
+  pub rows : 4096 ≤ length (d .rows)
+
+-- lists that hold the set of an accepted file
+pub record Held (s : List ℕ) (h : Network) (d : Lists) : Type 0 where
+  pub checked : check s ≡ Accepted
+  pub set : setWith h d ≡ setOf s
+
+unfoldable pub tablesVerdict : List ℕ → ℕ → Verdict
+tablesVerdict s room = andThen (check s) (refuse (need (leb (tablesLength (headerOf s)) room) 14 0) 0)

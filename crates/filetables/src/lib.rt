@@ -1,0 +1,170 @@
+// The tables of a set's file. `tables` promises, for any bytes and any room, the published tables at the front of the lent room
+// and their length, or 01's refusal with every lent byte as it came: 1 to 6, 13, 7 and 8 by topology, 14. The lists that the
+// tables are made from are local.
+use housefile::header;
+use order::need_room;
+use order::tables_length;
+use order::then;
+use reader::lists_into;
+use reader::row_entries;
+use rules::LengthAnswer;
+use rules::Network;
+use rules::Verdict;
+use tables::fill_tables;
+ghost use mathlib.Core.Path.{_≡_};
+ghost use Prim.Native.Nat.{_≤_};
+ghost use lib.ListN.{length};
+ghost use Rattle.rules.specs.declared.Verdict.the-variants.{Accepted};
+ghost use Rattle.rules.specs.Limits.{tablesLength};
+ghost use Rattle.rules.specs.File.{headerOf, setOf};
+ghost use Rattle.rules.specs.Distance.{tableBytes};
+ghost use Rattle.rules.specs.Judgement.{check};
+ghost use Rattle.rules.specs.Entries.{lists, Promise, tablesEntry};
+ghost use Rattle.filetables.specs.Parts.{Exact, Wide, Held, tablesVerdict};
+
+// ---- from a file to its tables, by lists
+
+// Lists that hold the file's set.
+fn by_lists<'a>(
+    file: &[u8],
+    net: Network,
+    a: &[u8],
+    b: &[u8],
+    weights: &'a [u16],
+    homes: &[u8],
+    rows: &'a [u16],
+    out: &mut [u8],
+)
+    requires { ⌜ Held (now file) net (lists (now a) (now b) (now weights) (now homes) (now rows)) ⌝ }
+    requires { ⌜ length (now out) ≡ tablesLength net ⌝ }
+    ensures { λ _. ⌜ now (out .exit) ≡ tableBytes (setOf (now (file .entry))) ⌝ }
+{
+    fill_tables(net, a, b, weights, homes, rows, out);
+}
+
+// Lists that are exactly as long as the counts say.
+fn from_lists(
+    file: &[u8],
+    net: Network,
+    a: &mut [u8],
+    b: &mut [u8],
+    weights: &mut [u16],
+    homes: &mut [u8],
+    rows: &mut [u16],
+    out: &mut [u8],
+)
+    requires { ⌜ check (now file) ≡ Accepted ⌝ }
+    requires { ⌜ net ≡ headerOf (now file) ⌝ }
+    requires { ⌜ Exact net (lists (now a) (now b) (now weights) (now homes) (now rows)) ⌝ }
+    requires { ⌜ length (now out) ≡ tablesLength net ⌝ }
+    ensures { λ _. ⌜ now (out .exit) ≡ tableBytes (setOf (now (file .entry))) ⌝ }
+{
+    lists_into(file, net, a, b, weights, homes, rows);
+    by_lists(file, net, a, b, weights, homes, rows, out);
+}
+
+// Lists that are long enough for every set: their parts that the counts ask for.
+fn in_parts(
+    file: &[u8],
+    net: Network,
+    a: &mut [u8],
+    b: &mut [u8],
+    weights: &mut [u16],
+    homes: &mut [u8],
+    rows: &mut [u16],
+    out: &mut [u8],
+)
+    requires { ⌜ check (now file) ≡ Accepted ⌝ }
+    requires { ⌜ net ≡ headerOf (now file) ⌝ }
+    requires { ⌜ Wide (lists (now a) (now b) (now weights) (now homes) (now rows)) ⌝ }
+    requires { ⌜ length (now out) ≡ tablesLength net ⌝ }
+    ensures { λ _. ⌜ now (out .exit) ≡ tableBytes (setOf (now (file .entry))) ⌝ }
+{
+    let m = net.m as usize;
+    let n = net.n as usize;
+    let entries = row_entries(net);
+    from_lists(
+        file,
+        net,
+        &mut a[..m],
+        &mut b[..m],
+        &mut weights[..m],
+        &mut homes[..n],
+        &mut rows[..entries],
+        out,
+    );
+}
+
+fn ends() -> [u8; 128]
+    ensures { λ r. ⌜ 128 ≡ length r ⌝ }
+{
+    [0; 128]
+}
+
+fn link_weights() -> [u16; 128]
+    ensures { λ r. ⌜ 128 ≡ length r ⌝ }
+{
+    [0; 128]
+}
+
+fn nodes() -> [u8; 32]
+    ensures { λ r. ⌜ 32 ≡ length r ⌝ }
+{
+    [0; 32]
+}
+
+fn backup_weights() -> [u16; 4096]
+    ensures { λ r. ⌜ 4096 ≡ length r ⌝ }
+{
+    [0; 4096]
+}
+
+// The tables of an accepted set's file, into room of their length.
+pub fn fill(file: &[u8], net: Network, out: &mut [u8])
+    requires { ⌜ check (now file) ≡ Accepted ⌝ }
+    requires { ⌜ net ≡ headerOf (now file) ⌝ }
+    requires { ⌜ length (now out) ≡ tablesLength net ⌝ }
+    ensures { λ _. ⌜ now (out .exit) ≡ tableBytes (setOf (now (file .entry))) ⌝ }
+{
+    let mut a = ends();
+    let mut b = ends();
+    let mut weights = link_weights();
+    let mut homes = nodes();
+    let mut rows = backup_weights();
+    in_parts(
+        file,
+        net,
+        &mut a,
+        &mut b,
+        &mut weights,
+        &mut homes,
+        &mut rows,
+        out,
+    );
+}
+
+// ---- the entry
+
+fn tables_verdict(file: &[u8], room: usize) -> Verdict
+    ensures { λ r. ⌜ r ≡ tablesVerdict (now (file .entry)) room ⌝ }
+{
+    let v = checker::verdict(file);
+    let long = tables_length(header(file));
+    then(v, need_room(long, room))
+}
+
+// The tables of a set's file.
+pub fn tables(file: &[u8], out: &mut [u8]) -> LengthAnswer
+    ensures { λ r. ⌜ Promise tablesEntry (now (file .entry)) (now (out .entry)) r (now (out .exit)) ⌝ }
+{
+    let v = tables_verdict(file, out.len());
+    match v {
+        Verdict::Accepted => {
+            let net = header(file);
+            let long = tables_length(net);
+            fill(file, net, &mut out[..long]);
+            LengthAnswer::Length(long)
+        }
+        Verdict::Refused { number, place } => LengthAnswer::Refused { number, place },
+    }
+}

@@ -1,0 +1,2 @@
+-- The numbers behind the verdicts.
+pub mod Numbers

@@ -1,0 +1,2 @@
+-- Reading in the shape in which the code runs.
+pub mod Reading

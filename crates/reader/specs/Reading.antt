@@ -1,0 +1,52 @@
+-- What reading writes, and when it refuses, over the header's counts and the lists' lengths. The published entry says the same of a set.
+use mathlib.Core.List.{List}
+use Prim.Native.Nat.{ℕ, _+_, _*_, _≤_}
+use lib.Dec.{leb}
+use lib.ListN.{length, getD}
+use Rattle.rules.specs.declared.Network.{Network}
+use Rattle.rules.specs.declared.Verdict.{Verdict}
+use Rattle.rules.specs.Basics.{need, upTo, flat, laid}
+use Rattle.rules.specs.Limits.{homeRecords, rowWeights}
+use Rattle.rules.specs.File.{two, endA, endB, linkWeight, homeTopology, rowWeight}
+use Rattle.rules.specs.Judgement.{refuse, andThen, judge}
+use Rattle.rules.specs.Entries.{Lists, lists}
+
+-- the bytes at equal distances, and the numbers of two bytes
+unfoldable pub byteAt : List ℕ → ℕ → ℕ → ℕ → ℕ
+byteAt s from stride i = getD s (from + stride * i) 0
+
+unfoldable pub twoAt : List ℕ → ℕ → ℕ → ℕ → ℕ
+twoAt s from stride i = two s (from + stride * i)
+
+-- the row of topology j + 1
+unfoldable pub rowOf : List ℕ → Network → ℕ → List ℕ
+rowOf s h j = upTo (rowWeight s h j) (rowWeights h)
+
+-- the file's fields at the front of each list
+unfoldable pub listsOf : List ℕ → Network → Lists → Lists
+listsOf s h d =
+    lists (laid (upTo (endA s) (h .m)) (d .a)) (laid (upTo (endB s) (h .m)) (d .b)) (laid (upTo (linkWeight s) (h .m)) (d .weights))
+    (laid (upTo (homeTopology s h) (homeRecords h)) (d .homes))
+    (laid (flat (rowOf s h) (h .k)) (d .rows))
+
+-- each list is long enough
+pub record Room (h : Network) (d : Lists) : Type 0 where
+  pub a : h .m ≤ length (d .a)
+  pub b : h .m ≤ length (d .b)
+  pub weights : h .m ≤ length (d .weights)
+  pub homes : homeRecords h ≤ length (d .homes)
+  pub rows : h .k * rowWeights h ≤ length (d .rows)
+
+unfoldable pub listsNumber : ℕ → Network → ℕ → ℕ → ℕ → ℕ → ℕ → ℕ → ℕ → ℕ
+listsNumber number h a b weights homes rows nodes entries =
+    need (leb (h .m) a) number
+    (need (leb (h .m) b) number
+    (need (leb (h .m) weights) number
+    (need (leb nodes homes) number
+    (need (leb entries rows) number 0))))
+
+unfoldable pub roomVerdict : Network → ℕ → ℕ → ℕ → ℕ → ℕ → Verdict
+roomVerdict h a b weights homes rows = refuse (listsNumber 14 h a b weights homes rows (homeRecords h) (h .k * rowWeights h)) 0
+
+unfoldable pub readVerdict : List ℕ → Network → ℕ → ℕ → ℕ → ℕ → ℕ → Verdict
+readVerdict s h a b weights homes rows = andThen (judge s) (roomVerdict h a b weights homes rows)

@@ -1,0 +1,241 @@
+// Reading a house file into lent lists. `read` promises 01's answer for any bytes and any lists: the header's counts with the
+// file's fields at the front of each list, or the refusal by number and place with every list as it came. Entries past the counts
+// stay as they came. The functions that fill one list each may be called where their lists are long enough.
+use housefile::byte;
+use housefile::two;
+use rules::Network;
+use rules::ReadAnswer;
+use rules::Verdict;
+ghost use mathlib.Core.Path.{_≡_};
+ghost use Prim.Native.Nat.{_*_, _<_, _≤_};
+ghost use lib.ListN.{length};
+ghost use Rattle.rules.specs.Basics.{upTo, flat, laid};
+ghost use Rattle.rules.specs.Limits.{rowWeights};
+ghost use Rattle.rules.specs.File.{endA, endB, linkWeight, homeTopology, rowWeight};
+ghost use Rattle.rules.specs.Entries.{lists, Promise, readEntry};
+ghost use Rattle.reader.specs.Reading.{byteAt, twoAt, rowOf, listsNumber, roomVerdict, readVerdict, Room, listsOf};
+
+// ---- one list
+
+// The bytes at from, from + stride and so on, at the front of a list.
+pub fn bytes_into(file: &[u8], from: usize, stride: usize, count: usize, out: &mut [u8])
+    requires { ⌜ (count ≤ length (now out)) × ((count < 1048576) × ((stride < 256) × (from < 1073741824))) ⌝ }
+    ensures { λ _. ⌜ now (out .exit) ≡ laid (upTo (byteAt (now (file .entry)) from stride) count) (now (out .entry)) ⌝ }
+{
+    let mut i = 0;
+    let mut at = from;
+    while i < count {
+        out[i] = byte(file, at);
+        at += stride;
+        i += 1;
+    }
+}
+
+// The same of numbers of two bytes.
+pub fn twos_into(file: &[u8], from: usize, stride: usize, count: usize, out: &mut [u16])
+    requires { ⌜ (count ≤ length (now out)) × ((count < 1048576) × ((stride < 256) × (from < 1073741824))) ⌝ }
+    ensures { λ _. ⌜ now (out .exit) ≡ laid (upTo (twoAt (now (file .entry)) from stride) count) (now (out .entry)) ⌝ }
+{
+    let mut i = 0;
+    let mut at = from;
+    while i < count {
+        out[i] = two(file, at);
+        at += stride;
+        i += 1;
+    }
+}
+
+// The first m links' ends a.
+pub fn ends_a_into(file: &[u8], m: usize, out: &mut [u8])
+    requires { ⌜ (m ≤ length (now out)) × (m < 1048576) ⌝ }
+    ensures { λ _. ⌜ now (out .exit) ≡ laid (upTo (endA (now (file .entry))) m) (now (out .entry)) ⌝ }
+{
+    bytes_into(file, Network::HEADER + 2, Network::LINK, m, out);
+}
+
+// Their ends b.
+pub fn ends_b_into(file: &[u8], m: usize, out: &mut [u8])
+    requires { ⌜ (m ≤ length (now out)) × (m < 1048576) ⌝ }
+    ensures { λ _. ⌜ now (out .exit) ≡ laid (upTo (endB (now (file .entry))) m) (now (out .entry)) ⌝ }
+{
+    bytes_into(file, Network::HEADER + 3, Network::LINK, m, out);
+}
+
+// Their weights in topology 0.
+pub fn weights_into(file: &[u8], m: usize, out: &mut [u16])
+    requires { ⌜ (m ≤ length (now out)) × (m < 1048576) ⌝ }
+    ensures { λ _. ⌜ now (out .exit) ≡ laid (upTo (linkWeight (now (file .entry))) m) (now (out .entry)) ⌝ }
+{
+    twos_into(file, Network::HEADER + 4, Network::LINK, m, out);
+}
+
+// The first nodes' homes.
+pub fn homes_into(file: &[u8], net: Network, count: usize, out: &mut [u8])
+    requires { ⌜ (count ≤ length (now out)) × (count < 1048576) ⌝ }
+    ensures { λ _. ⌜ now (out .exit) ≡ laid (upTo (homeTopology (now (file .entry)) net) count) (now (out .entry)) ⌝ }
+{
+    bytes_into(
+        file,
+        housefile::home_place(net, 0) + 3,
+        Network::HOME,
+        count,
+        out,
+    );
+}
+
+// The weights of the row of topology j + 1.
+pub fn row_into(file: &[u8], net: Network, j: usize, count: usize, out: &mut [u16])
+    requires { ⌜ (j < 256) × ((count ≤ length (now out)) × (count < 1048576)) ⌝ }
+    ensures { λ _. ⌜ now (out .exit) ≡ laid (upTo (rowWeight (now (file .entry)) net j) count) (now (out .entry)) ⌝ }
+{
+    twos_into(
+        file,
+        housefile::row_place(net, j) + Network::ROW_HEAD,
+        Network::WEIGHT,
+        count,
+        out,
+    );
+}
+
+// The rows one after the other.
+pub fn rows_into(file: &[u8], net: Network, out: &mut [u16])
+    requires { ⌜ net .k * rowWeights net ≤ length (now out) ⌝ }
+    ensures { λ _. ⌜ now (out .exit) ≡ laid (flat (rowOf (now (file .entry)) net) (net .k)) (now (out .entry)) ⌝ }
+{
+    let long = housefile::row_weights(net);
+    let k = net.k as usize;
+    let mut j = 0;
+    let mut base = 0;
+    while j < k {
+        row_into(file, net, j, long, &mut out[base..]);
+        base += long;
+        j += 1;
+    }
+}
+
+// ---- all lists
+
+// Everything after the header.
+pub fn lists_into(
+    file: &[u8],
+    net: Network,
+    a: &mut [u8],
+    b: &mut [u8],
+    weights: &mut [u16],
+    homes: &mut [u8],
+    rows: &mut [u16],
+)
+    requires { ⌜ Room net (lists (now a) (now b) (now weights) (now homes) (now rows)) ⌝ }
+    ensures { λ _. ⌜ lists (now (a .exit)) (now (b .exit)) (now (weights .exit)) (now (homes .exit)) (now (rows .exit)) ≡ listsOf (now (file .entry)) net (lists (now (a .entry)) (now (b .entry)) (now (weights .entry)) (now (homes .entry)) (now (rows .entry))) ⌝ }
+{
+    let m = net.m as usize;
+    ends_a_into(file, m, a);
+    ends_b_into(file, m, b);
+    weights_into(file, m, weights);
+    homes_into(file, net, housefile::home_records(net), homes);
+    rows_into(file, net, rows);
+}
+
+// This refusal number where a list of these lengths is under what the counts need, or 0; `nodes` and `entries` are what the
+// homes and the rows need.
+pub fn lists_number(
+    number: u8,
+    net: Network,
+    a: usize,
+    b: usize,
+    weights: usize,
+    homes: usize,
+    rows: usize,
+    nodes: usize,
+    entries: usize,
+) -> u8
+    ensures { λ r. ⌜ r ≡ listsNumber number net a b weights homes rows nodes entries ⌝ }
+{
+    if a < net.m as usize {
+        return number;
+    }
+    if b < net.m as usize {
+        return number;
+    }
+    if weights < net.m as usize {
+        return number;
+    }
+    if homes < nodes {
+        return number;
+    }
+    if rows < entries {
+        return number;
+    }
+    0
+}
+
+// How many weights the rows have together.
+pub fn row_entries(net: Network) -> usize
+    ensures { λ r. ⌜ r ≡ net .k * rowWeights net ⌝ }
+{
+    (net.k as usize) * housefile::row_weights(net)
+}
+
+// Whether lists of these lengths hold what a file with these counts has.
+fn room(net: Network, a: usize, b: usize, weights: usize, homes: usize, rows: usize) -> Verdict
+    ensures { λ r. ⌜ r ≡ roomVerdict net a b weights homes rows ⌝ }
+{
+    let nodes = housefile::home_records(net);
+    let number = lists_number(14, net, a, b, weights, homes, rows, nodes, row_entries(net));
+    if number != 0 {
+        return Verdict::Refused { number, place: 0 };
+    }
+    Verdict::Accepted
+}
+
+// The file judged, and then the room.
+fn verdict_on(
+    file: &[u8],
+    net: Network,
+    a: usize,
+    b: usize,
+    weights: usize,
+    homes: usize,
+    rows: usize,
+) -> Verdict
+    ensures { λ r. ⌜ r ≡ readVerdict (now (file .entry)) net a b weights homes rows ⌝ }
+{
+    let v = housefile::judge(file);
+    match v {
+        Verdict::Accepted => room(net, a, b, weights, homes, rows),
+        Verdict::Refused {
+            number: _,
+            place: _,
+        } => v,
+    }
+}
+
+// Reads a file into the lent lists: link ends a and b, link weights, homes, backup weights row by row.
+pub fn read(
+    file: &[u8],
+    a: &mut [u8],
+    b: &mut [u8],
+    weights: &mut [u16],
+    homes: &mut [u8],
+    rows: &mut [u16],
+) -> ReadAnswer
+    ensures { λ r. ⌜ Promise readEntry (now (file .entry)) (lists (now (a .entry)) (now (b .entry)) (now (weights .entry)) (now (homes .entry)) (now (rows .entry))) r (lists (now (a .exit)) (now (b .exit)) (now (weights .exit)) (now (homes .exit)) (now (rows .exit))) ⌝ }
+{
+    let net = housefile::header(file);
+    let v = verdict_on(
+        file,
+        net,
+        a.len(),
+        b.len(),
+        weights.len(),
+        homes.len(),
+        rows.len(),
+    );
+    match v {
+        Verdict::Accepted => {
+            lists_into(file, net, a, b, weights, homes, rows);
+            ReadAnswer::Read(net)
+        }
+        Verdict::Refused { number, place } => ReadAnswer::Refused { number, place },
+    }
+}

@@ -1,0 +1,67 @@
+use mathlib.Core.List.{_++_}
+use lib.ListN.{drop}
+use Rattle.rules.specs.Basics.{upTo}
+use borrow.Author.Needs.{needs}
+use lib.ListN.{length}
+use Rattle.routes.proofs.Filling.{fill-none}
+use Rattle.tables.specs.Stages.{entry}
+use Rattle.tables.proofs.Whole.{copy-done, copy-more}
+use mathlib.Core.Path.{_≡_}
+use Prim.Native.Nat.{_-_, _≤_}
+use Rattle.tables.proofs.copy_row.Statement.{statement}
+use Rattle.tables.proofs.copy_row.Tie as tie
+use Rattle.tables.proofs.copy_row.Reads as reads
+use Rattle.tables.proofs.copy_row.Lts as lts
+
+abbrev Inv-loop : tie.InvT-loop
+Inv-loop r out₀ v₀ out v = (v ≤ length out₀) × (length out ≡ length out₀) × (out ≡ upTo (entry r) v ++ drop v out₀)
+
+abbrev μ-loop : tie.MeasureT-loop
+μ-loop r out₀ v₀ out v = length out₀ - v
+
+-- src/lib.rt:139:5
+loop-holds : tie.Need-loop-holds Inv-loop μ-loop
+loop-holds c = (search needs, search needs, search fill-none)
+
+-- src/lib.rt:140:18
+element-copy-out-out : tie.Need-element-copy-out-out Inv-loop μ-loop
+element-copy-out-out c = search needs
+
+-- src/lib.rt:140:9
+slice-write-out : tie.Need-slice-write-out Inv-loop μ-loop
+slice-write-out c = search needs
+
+-- src/lib.rt:141:9
+add-v : tie.Need-add-v Inv-loop μ-loop
+add-v c = search needs
+
+-- src/lib.rt:139:5
+loop-less : tie.Need-loop-less Inv-loop μ-loop
+loop-less c = search needs
+
+-- src/lib.rt:139:5
+loop-again : tie.Need-loop-again Inv-loop μ-loop
+loop-again c = (search needs, search needs, search copy-more)
+
+-- src/lib.rt:134:1
+same-length : tie.Need-same-length Inv-loop μ-loop
+same-length c = search needs
+
+-- src/lib.rt:134:1
+returns : tie.Need-returns Inv-loop μ-loop
+returns c = search copy-done
+
+pub copy-row-spec : {M : Type 1} → statement M
+copy-row-spec =
+    tie.close
+    (tie.spec
+    Inv-loop
+    μ-loop
+    loop-holds
+    element-copy-out-out
+    slice-write-out
+    add-v
+    loop-less
+    loop-again
+    same-length
+    returns)

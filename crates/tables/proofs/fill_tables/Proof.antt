@@ -1,0 +1,47 @@
+use Rattle.tables.proofs.Whole.{room-enough}
+use borrow.Author.Needs.{needs}
+use Rattle.tables.proofs.fill_tables.Statement.{statement}
+use Rattle.tables.proofs.fill_tables.Tie as tie
+use Rattle.tables.proofs.fill_tables.Reads as reads
+use Rattle.tables.proofs.fill_tables.Lts as lts
+use Rattle.tables.proofs.in_room.Reads as in-room-reads
+
+-- src/lib.rt:250:9
+slice-aggregate-in-room : tie.Need-slice-aggregate-in-room
+slice-aggregate-in-room c = search needs
+
+-- src/lib.rt:251:9
+slice-aggregate-in-room-2 : tie.Need-slice-aggregate-in-room-2
+slice-aggregate-in-room-2 c = search needs
+
+-- src/lib.rt:252:9
+slice-aggregate-in-room-3 : tie.Need-slice-aggregate-in-room-3
+slice-aggregate-in-room-3 c = search needs
+
+-- src/lib.rt:253:9
+slice-aggregate-in-room-4 : tie.Need-slice-aggregate-in-room-4
+slice-aggregate-in-room-4 c = search needs
+
+-- src/lib.rt:243:5
+in-room-requires : tie.Need-in-room-requires
+in-room-requires c κs = (search needs, (search room-enough, search needs))
+
+-- src/lib.rt:224:1
+same-length : tie.Need-same-length
+same-length c = search needs
+
+-- src/lib.rt:224:1
+returns : tie.Need-returns
+returns c = search needs
+
+pub fill-tables-spec : {M : Type 1} → statement M
+fill-tables-spec =
+    tie.close
+    (tie.spec
+    slice-aggregate-in-room
+    slice-aggregate-in-room-2
+    slice-aggregate-in-room-3
+    slice-aggregate-in-room-4
+    in-room-requires
+    same-length
+    returns)

@@ -1,0 +1,65 @@
+use Rattle.tables.proofs.One.{added, ready-alternates, ready-homed, ready-low, ready-square, ready-wired, ready-words, work-costs, work-distances}
+use borrow.Author.Needs.{needs}
+use Rattle.tables.proofs.topology.Statement.{statement}
+use Rattle.tables.proofs.topology.Tie as tie
+use Rattle.tables.proofs.topology.Reads as reads
+use Rattle.tables.proofs.topology.Lts as lts
+use Rattle.hops.proofs.alternates.Reads as alternates-reads
+use Rattle.hops.proofs.hop_table.Reads as hop-table-reads
+use Rattle.tables.proofs.measure.Reads as measure-reads
+
+-- src/lib.rt:71:5
+measure-requires : tie.Need-measure-requires
+measure-requires c κs = (search needs, (search needs, search work-costs, search work-distances))
+
+-- src/lib.rt:72:5
+hop-table-requires : tie.Need-hop-table-requires
+hop-table-requires c κs = (search ready-wired, (search ready-low, (search ready-words, search ready-square)))
+
+-- src/lib.rt:73:5
+alternates-requires : tie.Need-alternates-requires
+alternates-requires c κs =
+    let p = c .before .before .before .before .before .before .before .before .before .before .before .before .before .before .before .before .before .before .before .before .before .before .before .pre in
+    let R = c .before .before .before .before .before .before .before .before .before .before .before .before .before .measure .ensures in
+    (ready-homed _ _ _ _ _ _ (p .0) _ (p .1 .1 .1 .0) _ _ R, ready-alternates _ _ _ _ _ _ (p .0) _ (p .1 .1 .1 .0) _ _ R _ (p .1 .1 .0))
+
+-- src/lib.rt:51:1
+same-length : tie.Need-same-length
+same-length c = search needs
+
+-- src/lib.rt:51:1
+same-length-2 : tie.Need-same-length-2
+same-length-2 c = search needs
+
+-- src/lib.rt:51:1
+same-length-3 : tie.Need-same-length-3
+same-length-3 c = search needs
+
+-- src/lib.rt:51:1
+same-length-4 : tie.Need-same-length-4
+same-length-4 c = search needs
+
+-- src/lib.rt:51:1
+same-length-5 : tie.Need-same-length-5
+same-length-5 c = search needs
+
+-- src/lib.rt:51:1
+returns : tie.Need-returns
+returns c =
+    let p = c .before .before .before .before .before .before .before .before .before .before .before .before .before .before .before .before .before .before .before .before .before .before .before .before .before .pre in
+    let R = c .before .before .before .before .before .before .before .before .before .before .before .before .before .before .before .measure .ensures in
+    added _ _ _ _ _ _ (p .0) _ (p .1 .1 .1 .0) _ _ R _ _ _ (p .1 .1 .0) (c .before .alternates .ensures) (c .before .before .before .before .before .before .before .hop-table .ensures)
+
+pub topology-spec : {M : Type 1} → statement M
+topology-spec =
+    tie.close
+    (tie.spec
+    measure-requires
+    hop-table-requires
+    alternates-requires
+    same-length
+    same-length-2
+    same-length-3
+    same-length-4
+    same-length-5
+    returns)

@@ -1,0 +1,4 @@
+-- What the functions' proofs cite.
+pub mod Stores
+pub mod Drafts
+pub mod Verdicts

@@ -1,0 +1,2 @@
+-- What the writer's parts are stated by.
+pub mod Parts

@@ -1,0 +1,149 @@
+// The writer: from a header and five lists to the file of the set that they are. `write` promises, for any lists and any room,
+// the refusal that the reader would give for what it would write, 1 for a list that is too short, 14 for room that is too short,
+// or the file at the front of the room; a refusal leaves the room as it came. Entries past the counts are neither written nor
+// compared. The lists are judged first and nothing is stored before they are accepted.
+mod list; // list.rt: the entries of the lists
+mod draft; // draft.rt: the judgement of the records
+mod store; // store.rt: the bytes of a set
+
+use housefile::rule;
+use rules::LengthAnswer;
+use rules::Network;
+use rules::Verdict;
+ghost use mathlib.Core.Path.{_≡_};
+ghost use lib.Dec.{leb};
+ghost use Rattle.rules.specs.Basics.{need};
+ghost use Rattle.rules.specs.Judgement.{refuse, andThen};
+ghost use Rattle.rules.specs.Entries.{Promise, lists, writeEntry};
+ghost use Rattle.writer.specs.Parts.{shortNumber, recordsThenRoom, writeVerdict};
+
+// A list under what it needs: `m` for the links, `count` homes, `all` weights of rows.
+fn short(
+    m: usize,
+    count: usize,
+    all: usize,
+    a: usize,
+    b: usize,
+    weights: usize,
+    homes: usize,
+    rows: usize,
+) -> u8
+    ensures { λ r. ⌜ r ≡ shortNumber m count all a b weights homes rows ⌝ }
+{
+    if a < m {
+        return 1;
+    }
+    if b < m {
+        return 1;
+    }
+    if weights < m {
+        return 1;
+    }
+    if homes < count {
+        return 1;
+    }
+    if rows < all {
+        return 1;
+    }
+    0
+}
+
+// Room under what it is to hold.
+fn room(wanted: usize, long: usize) -> Verdict
+    ensures { λ r. ⌜ r ≡ refuse (need (leb wanted long) 14 0) 0 ⌝ }
+{
+    if long < wanted {
+        return Verdict::Refused {
+            number: 14,
+            place: 0,
+        };
+    }
+    Verdict::Accepted
+}
+
+// The first of two that refuses.
+fn first(v: Verdict, w: Verdict) -> Verdict
+    ensures { λ r. ⌜ r ≡ andThen v w ⌝ }
+{
+    match v {
+        Verdict::Accepted => w,
+        Verdict::Refused {
+            number: _,
+            place: _,
+        } => v,
+    }
+}
+
+// The records, then the room.
+fn records_then_room(
+    net: Network,
+    a: &[u8],
+    b: &[u8],
+    weights: &[u16],
+    homes: &[u8],
+    rows: &[u16],
+    long: usize,
+) -> Verdict
+    ensures { λ r. ⌜ r ≡ recordsThenRoom net (lists (now (a .entry)) (now (b .entry)) (now (weights .entry)) (now (homes .entry)) (now (rows .entry))) long ⌝ }
+{
+    let records = draft::records(net, a, b, weights, homes, rows);
+    let room = room(housefile::file_length(net), long);
+    first(records, room)
+}
+
+// What writing these lists answers, into a room that is so long.
+fn judged(
+    net: Network,
+    a: &[u8],
+    b: &[u8],
+    weights: &[u16],
+    homes: &[u8],
+    rows: &[u16],
+    long: usize,
+) -> Verdict
+    ensures { λ r. ⌜ r ≡ writeVerdict net (lists (now (a .entry)) (now (b .entry)) (now (weights .entry)) (now (homes .entry)) (now (rows .entry))) long ⌝ }
+{
+    let counts = rule::counts(net, 0);
+    if counts != 0 {
+        return Verdict::Refused {
+            number: counts,
+            place: 0,
+        };
+    }
+    let number = short(
+        net.m as usize,
+        housefile::home_records(net),
+        list::row_start(net, net.k as usize),
+        a.len(),
+        b.len(),
+        weights.len(),
+        homes.len(),
+        rows.len(),
+    );
+    if number != 0 {
+        return Verdict::Refused { number, place: 0 };
+    }
+    records_then_room(net, a, b, weights, homes, rows, long)
+}
+
+// Writes the file of these lists into lent room.
+pub fn write(
+    net: Network,
+    a: &[u8],
+    b: &[u8],
+    weights: &[u16],
+    homes: &[u8],
+    rows: &[u16],
+    file: &mut [u8],
+) -> LengthAnswer
+    ensures { λ r. ⌜ Promise writeEntry (record { net = net; lists = lists (now (a .entry)) (now (b .entry)) (now (weights .entry)) (now (homes .entry)) (now (rows .entry)) }) (now (file .entry)) r (now (file .exit)) ⌝ }
+{
+    let v = judged(net, a, b, weights, homes, rows, file.len());
+    match v {
+        Verdict::Accepted => {
+            store::set(file, net, a, b, weights, homes, rows);
+            LengthAnswer::Length(housefile::file_length(net))
+        }
+        Verdict::Refused { number, place } => LengthAnswer::Refused { number, place },
+    }
+}
