@@ -1,0 +1,4 @@
+pub mod Texts
+pub mod Seens
+pub mod Wholes
+pub mod Answers
