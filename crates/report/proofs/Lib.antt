@@ -2,3 +2,4 @@ pub mod Texts
 pub mod Seens
 pub mod Wholes
 pub mod Answers
+pub mod Coverage
