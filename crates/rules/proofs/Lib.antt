@@ -36,5 +36,6 @@ pub mod Delivery
 pub mod Lines
 pub mod ChangeKinds
 pub mod Lent
+pub mod Fits
 pub mod Answered
 pub mod Shown

@@ -1,0 +1,144 @@
+-- From the answer of the entry `tables` to that of `report`: the room for the longest tables is always enough, so both refuse the same files.
+use mathlib.Core.Path.{_≡_, refl, sym, ap, _∙_}
+use mathlib.Core.List.{List, [], _∷_, _++_}
+use Prim.Native.Nat.{ℕ, _+_, _*_, _≤_}
+use native.Mathlib.Nat.{mul-le-mul, zero-add}
+use native.Mathlib.Omega.{arith}
+use lib.Dec.{leb}
+use lib.ListN.{length}
+use borrow.Author.Tests.{le-leb}
+use Rattle.rules.specs.declared.Network.{Network}
+use Rattle.rules.specs.declared.Verdict.{Verdict}
+use Rattle.rules.specs.declared.Verdict.the-variants.{Accepted, Refused}
+use Rattle.rules.specs.declared.LengthAnswer.{LengthAnswer}
+use Rattle.rules.specs.declared.LengthAnswer.the-variants as long
+use Rattle.rules.specs.Basics.{need, laid}
+use Rattle.rules.specs.Limits.{tablesLength}
+use Rattle.rules.specs.File.{headerOf, setOf}
+use Rattle.rules.specs.Distance.{tableBytes}
+use Rattle.rules.specs.Judgement.{andThen, needRoom, check}
+use Rattle.rules.specs.Report.{decimal, newline, reportText, refusalLine, printed}
+use Rattle.rules.specs.Answers.{accepted, refused, tell, lengthTells}
+use Rattle.rules.specs.Entries.{onAccept, Promise, tablesEntry, reportEntry}
+use Rattle.rules.proofs.Choices.{need-yes, refuse-ok, then-ok, then-no, then-first}
+use Rattle.rules.proofs.Held.{net-held}
+use Rattle.rules.proofs.Checked.{checked-set}
+use Rattle.rules.proofs.Fits.{report-longest}
+use Rattle.report.specs.Text.{Wrote}
+use Rattle.report.specs.Lines.{Ready}
+use Rattle.report.specs.Answer.{Made, Says, it, line, Printed}
+use Rattle.report.proofs.Texts.{wrote-laid, wrote-then}
+
+-- ---- what an answer says of the verdict
+
+answered : (v : Verdict) (values : List ℕ) (bytes : ℕ) → accepted (bytes ∷ []) ≡ tell v values → v ≡ Accepted
+unfolding tell
+answered Accepted values bytes e = refl
+answered (Refused number place) values bytes e = let z : _≡_ {A = ℕ} 0 1 = cc in absurd (omega arith)
+
+turned-down : (v : Verdict) (values : List ℕ) (number place : ℕ) → refused number place ≡ tell v values → v ≡ Refused number place
+unfolding tell
+turned-down Accepted values number place e = let z : _≡_ {A = ℕ} 0 1 = cc in absurd (omega arith)
+turned-down (Refused x y) values number place e = cc
+
+-- ---- room for the longest tables
+
+longest-tables : (h : Network) → h .n ≤ 32 → h .k ≤ 32 → tablesLength h ≤ 34816
+unfolding tablesLength
+longest-tables h n k =
+    let a : h .n * h .n ≤ 1024 = mul-le-mul {n₁ = h .n} {m₁ = h .n} {n₂ = 32} {m₂ = 32} n n in
+    omega (arith, mul-le-mul {n₁ = h .k + 1} {m₁ = h .n * h .n} {n₂ = 33} {m₂ = 1024} (omega arith) a)
+
+module _ (s : List ℕ) where
+  enough : (before : List ℕ) → length before ≡ 34816 → check s ≡ Accepted → needRoom (tablesLength (headerOf s)) before ≡ Accepted
+  unfolding needRoom
+  enough before e c =
+      let A = checked-set s c .rules .limits in
+      let n : headerOf s .n ≤ 32 = rw (net-held s) at (A .nodes .1) in
+      let k : headerOf s .k ≤ 32 = rw (net-held s) at (A .topologies .0) in
+      let l : tablesLength (headerOf s) ≤ length before = omega (arith, longest-tables (headerOf s) n k) in
+      sym (refuse-ok (need (leb (tablesLength (headerOf s)) (length before)) 14 0) 0
+      (sym (need-yes (leb (tablesLength (headerOf s)) (length before)) 14 0 0 (le-leb (tablesLength (headerOf s)) (length before) l) refl)))
+
+  -- ---- an accepted file
+
+  pub made-ready : (answer : LengthAnswer) (tables : List ℕ) (bytes : ℕ) (net : Network) → Made s answer tables → answer ≡ long.Length bytes → net ≡ headerOf s → Ready s net tables
+  unfolding tablesEntry lengthTells onAccept
+  made-ready answer tables bytes net M e h =
+      let v : andThen (check s) (needRoom (tablesLength (headerOf s)) (M .before)) ≡ Accepted = answered _ (tablesLength (headerOf s) ∷ []) bytes (sym (ap lengthTells e) ∙ M .kept .answer) in
+      let c = then-first (check s) (needRoom (tablesLength (headerOf s)) (M .before)) v in
+      let A = checked-set s c .rules .limits in
+      record {
+        accepted = c;
+        header = h;
+        before = M .before;
+        made = M .kept .lent ∙ ap (λ (x : Verdict). onAccept x (laid (tableBytes (setOf s)) (M .before)) (M .before)) v;
+        least = rw (h, ← net-held s) (A .nodes .0);
+        most = rw (h, ← net-held s) (A .nodes .1);
+      }
+
+  pub reported : (answer : LengthAnswer) (tables old new : List ℕ) (bytes r : ℕ) → Made s answer tables → answer ≡ long.Length bytes → Wrote old 0 (reportText (setOf s)) 152657 r new → length old ≡ 22875
+      → Promise reportEntry s old (long.Length r) new
+  unfolding reportEntry lengthTells tell onAccept
+  reported answer tables old new bytes r M d w e =
+      let R = made-ready answer tables bytes (headerOf s) M d refl in
+      let A = checked-set s (R .accepted) in
+      record {
+        answer = rw (R .accepted) (ap (λ (x : ℕ). accepted (x ∷ [])) (w .on ∙ z));
+        lent = rw (R .accepted) (wrote-laid old new (reportText (setOf s)) 152657 r w (omega (arith, report-longest (setOf s) A)));
+      }
+    where
+      z : 0 + length (reportText (setOf s)) ≡ length (reportText (setOf s))
+      z = omega arith
+
+  -- ---- a refused file
+
+  pub made-refused : (answer : LengthAnswer) (tables old : List ℕ) (number place : ℕ) → Made s answer tables → answer ≡ long.Refused number place → Promise reportEntry s old (long.Refused number place) old
+  unfolding tablesEntry reportEntry lengthTells tell onAccept
+  made-refused answer tables old number place M e =
+      let v : andThen (check s) (needRoom (tablesLength (headerOf s)) (M .before)) ≡ Refused number place = turned-down _ (tablesLength (headerOf s) ∷ []) number place (sym (ap lengthTells e) ∙ M .kept .answer) in
+      let c : check s ≡ Refused number place = go (check s) refl v in
+      record { answer = rw c; lent = rw c }
+    where
+      go : (x : Verdict) → check s ≡ x → andThen (check s) (needRoom (tablesLength (headerOf s)) (M .before)) ≡ Refused number place → check s ≡ Refused number place
+      go Accepted d v = let z : _≡_ {A = ℕ} 0 1 = cc (then-ok (check s) (needRoom (tablesLength (headerOf s)) (M .before)) d, enough (M .before) (M .long) d) in absurd (omega arith)
+      go (Refused x y) d v = d ∙ sym (then-no (check s) (needRoom (tablesLength (headerOf s)) (M .before)) x y d) ∙ v
+
+-- ---- what the program prints
+
+pub refusal-of : (old o₁ o₂ new : List ℕ) (p q r number place : ℕ) → Wrote old 0 ((114 ∷ 101 ∷ 102 ∷ 117 ∷ 115 ∷ 101 ∷ 100 ∷ 32 ∷ []) ++ decimal number) 36 p o₁
+    → Wrote o₁ p ((32 ∷ 97 ∷ 116 ∷ 32 ∷ []) ++ decimal place) 36 q o₂ → Wrote o₂ q (10 ∷ []) 1 r new → Wrote old 0 (refusalLine number place) 73 r new
+unfolding refusalLine
+refusal-of old o₁ o₂ new p q r number place a b c =
+    wrote-then old o₁ new 0 p r 36 37 73 ((114 ∷ 101 ∷ 102 ∷ 117 ∷ 115 ∷ 101 ∷ 100 ∷ 32 ∷ []) ++ decimal number) (((32 ∷ 97 ∷ 116 ∷ 32 ∷ []) ++ decimal place) ++ newline) a
+    (wrote-then o₁ o₂ new p q r 36 1 37 ((32 ∷ 97 ∷ 116 ∷ 32 ∷ []) ++ decimal place) newline b c (omega arith)) (omega arith)
+
+module _ (s : List ℕ) where
+  accepted-of : (old new : List ℕ) (answer : LengthAnswer) (bytes : ℕ) → Promise reportEntry s old answer new → answer ≡ long.Length bytes → check s ≡ Accepted
+  unfolding reportEntry lengthTells
+  accepted-of old new answer bytes P e = answered (check s) (length (reportText (setOf s)) ∷ []) bytes (sym (ap lengthTells e) ∙ P .answer)
+
+  pub printed-of : (old mid new : List ℕ) (answer : LengthAnswer) (r : ℕ) → Promise reportEntry s old answer mid → Says answer mid r new → length mid ≡ 22875 → Printed s old r new
+  unfolding reportEntry lengthTells tell onAccept printed
+  printed-of old mid new answer r P (it e m) l =
+      let c = accepted-of old mid answer r P e in
+      let a : accepted (r ∷ []) ≡ accepted (length (reportText (setOf s)) ∷ []) = sym (ap lengthTells e) ∙ P .answer ∙ ap (λ (v : Verdict). tell v (length (reportText (setOf s)) ∷ [])) c in
+      let z : r ≡ length (reportText (setOf s)) = cc in
+      record { is = m ∙ P .lent ∙ rw c; long = z ∙ rw c; fits = omega (arith, ap length m, report-longest (setOf s) (checked-set s c)) }
+  printed-of old mid new answer r P (line number place e w) l =
+      let c : check s ≡ Refused number place = turned-down (check s) (length (reportText (setOf s)) ∷ []) number place (sym (ap lengthTells e) ∙ P .answer) in
+      let m : mid ≡ old = P .lent ∙ ap (λ (v : Verdict). onAccept v (laid (reportText (setOf s)) old) old) c in
+      let z : r ≡ length (refusalLine number place) = w .on ∙ zero-add (length (refusalLine number place)) in
+      record {
+        is = wrote-laid mid new (refusalLine number place) 73 r w (omega (arith, w .few)) ∙ ap (laid (refusalLine number place)) m ∙ rw c;
+        long = z ∙ rw c;
+        fits = omega (arith, w .few, w .long);
+      }
+
+pub says-report : (answer : LengthAnswer) (old : List ℕ) (bytes : ℕ) → answer ≡ long.Length bytes → Says answer old bytes old
+says-report answer old bytes e = it e refl
+
+pub says-refusal : (answer : LengthAnswer) (old new : List ℕ) (number place r : ℕ) → answer ≡ long.Refused number place → Wrote old 0 (refusalLine number place) 73 r new → Says answer old r new
+says-refusal answer old new number place r e w = line number place e w
+
+pub ruleset answers = (made-ready, reported, made-refused, refusal-of, printed-of, says-report, says-refusal)

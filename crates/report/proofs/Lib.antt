@@ -1,0 +1,5 @@
+pub mod Texts
+pub mod Seens
+pub mod Wholes
+pub mod Answers
+pub mod Coverage

@@ -1,0 +1,121 @@
+-- What the code looks up and runs by the file's own tables is what the rules say of its set.
+use mathlib.Core.Path.{_≡_, sym, ap, ap₂, subst, _∙_}
+use mathlib.Core.List.{List}
+use Prim.Native.Nat.{ℕ, _+_, _-_, _*_, _<_}
+use native.Mathlib.Nat.{zero-mul, zero-add}
+use native.Mathlib.Omega.{arith}
+use lib.ListN.{getD}
+use Rattle.rules.specs.declared.Network.{Network}
+use Rattle.rules.specs.declared.Packet.{Packet}
+use Rattle.rules.specs.declared.Failure.{Failure}
+use Rattle.rules.specs.declared.Failure.the-variants.{Nothing, Link}
+use Rattle.rules.specs.declared.Kind.{Kind}
+use Rattle.rules.specs.declared.Kind.the-variants as change
+use Rattle.rules.specs.declared.Step.{Step}
+use Rattle.rules.specs.declared.Step.the-variants.{Delivered, Moved, Dropped}
+use Rattle.rules.specs.declared.Journey.{Journey}
+use Rattle.rules.specs.Limits.{mostHops}
+use Rattle.rules.specs.File.{setOf}
+use Rattle.rules.specs.Isolation.{linkBetween}
+use Rattle.rules.specs.Distance.{nextHop}
+use Rattle.rules.specs.Forwarding.{link, faultOf, up, tablesOf, entryPlace, lentTables, packet, step, hops, run}
+use Rattle.rules.specs.Report.{kindOf, packetOf, detectedLink, detection, runUnder, backupHops, plainHops, extraHops}
+use Rattle.rules.proofs.Held.{net-held}
+use Rattle.rules.proofs.Checked.{checked-set}
+use Rattle.rules.proofs.Runs.{starts}
+use Rattle.rules.proofs.Lent.{Agree, lent-agree, step-same, run-same}
+use Rattle.forwarding.specs.Hop.{on, tablesAt, stepAt}
+use Rattle.forwarding.specs.Trip.{runAt, journeyOf, RunsAs}
+use Rattle.report.specs.Lines.{Ready, Pair, seenBy}
+
+-- ---- the parts of a step
+
+pub kind-delivered : (s : Step) (p : Packet) → s ≡ Delivered p → change.Unchanged ≡ kindOf s
+unfolding kindOf
+kind-delivered s p e = rw e
+
+pub kind-moved : (s : Step) (p : Packet) (k : Kind) → s ≡ Moved p k → k ≡ kindOf s
+unfolding kindOf
+kind-moved s p k e = rw e
+
+pub kind-dropped : (s : Step) (p : Packet) → s ≡ Dropped p → change.Unchanged ≡ kindOf s
+unfolding kindOf
+kind-dropped s p e = rw e
+
+pub packet-delivered : (s : Step) (p : Packet) → s ≡ Delivered p → p ≡ packetOf s
+unfolding packetOf
+packet-delivered s p e = rw e
+
+pub packet-moved : (s : Step) (p : Packet) (k : Kind) → s ≡ Moved p k → p ≡ packetOf s
+unfolding packetOf
+packet-moved s p k e = rw e
+
+pub packet-dropped : (s : Step) (p : Packet) → s ≡ Dropped p → p ≡ packetOf s
+unfolding packetOf
+packet-dropped s p e = rw e
+
+-- ---- the next hop in topology 0 stands in the first table
+
+pub first-table : (tables : List ℕ) (net : Network) (u t row x : ℕ) → row ≡ u * net .n → x ≡ getD tables (row + t) 0 → x ≡ getD tables (entryPlace net 0 u t) 0
+unfolding entryPlace
+first-table tables net u t row x e d = d ∙ ap (λ (r : ℕ). getD tables (r + t) 0) e ∙ ap (λ (i : ℕ). getD tables i 0) (sym z)
+  where
+    z : 0 * (net .n * net .n) + (u * net .n + t) ≡ u * net .n + t
+    z = rw (zero-mul, zero-add)
+
+-- ---- by the file's own tables
+
+module _ (s tables : List ℕ) (net : Network) (R : Ready s net tables) where
+  pub same-net : net ≡ setOf s .net
+  same-net = R .header ∙ sym (net-held s)
+
+  agree : Agree (setOf s) (tablesAt s tables)
+  agree =
+      subst (λ (h : Network). Agree (setOf s) (lentTables h tables)) (net-held s)
+      (subst (λ (l : List ℕ). Agree (setOf s) (lentTables (setOf s .net) l)) (sym (R .made)) (lent-agree (setOf s) (R .before)))
+
+  in-set : (u : ℕ) → u < net .n → u < setOf s .net .n
+  in-set u l = subst (λ (h : Network). u < h .n) same-net l
+
+  same-next : (u t : ℕ) → Pair net u t → getD tables (entryPlace net 0 u t) 0 ≡ nextHop (setOf s) 0 u t
+  unfolding lentTables
+  same-next u t P =
+      ap (λ (h : Network). getD tables (entryPlace h 0 u t) 0) (R .header)
+      ∙ agree .next 0 u t (omega arith) (in-set u (P .node)) (in-set t (P .end))
+
+  same-step : (f : Failure) (u t : ℕ) → Pair net u t → stepAt s tables f (packet u t 0) ≡ step (setOf s) (tablesOf (setOf s)) (up (setOf s) (faultOf f)) (packet u t 0)
+  unfolding stepAt
+  same-step f u t P =
+      let A = checked-set s (R .accepted) in
+      step-same (setOf s) A (on s f) (tablesAt s tables) agree (packet u t 0) (starts (setOf s) A (on s f) u t (in-set u (P .node)) (in-set t (P .end)))
+
+  pub hops-of : (f : Failure) (u t most : ℕ) (j : Journey) (old new : List ℕ) → Pair net u t → most ≡ mostHops net → RunsAs s tables f (packet u t 0) most old j new
+      → j .hops ≡ hops (runUnder (setOf s) (faultOf f) u t)
+  unfolding runUnder runAt journeyOf
+  hops-of f u t most j old new P e w =
+      let A = checked-set s (R .accepted) in
+      ap (λ (x : Journey). x .hops) (w .answer)
+      ∙ ap (λ (m : ℕ). hops (run (setOf s) (tablesAt s tables) (on s f) m (packet u t 0))) (e ∙ ap mostHops same-net)
+      ∙ ap hops (run-same (setOf s) A (on s f) (tablesAt s tables) agree (mostHops (setOf s .net)) (packet u t 0) (starts (setOf s) A (on s f) u t (in-set u (P .node)) (in-set t (P .end))))
+
+  pub seen-of : (u t via l back plain extra : ℕ) (st : Step) (p : Packet) (kind : Kind) → Pair net u t
+      → via ≡ getD tables (entryPlace net 0 u t) 0 → l ≡ linkBetween (setOf s) u via → st ≡ stepAt s tables (Link l) (packet u t 0)
+      → p ≡ packetOf st → kind ≡ kindOf st → back ≡ hops (runUnder (setOf s) (faultOf (Link l)) u t) → plain ≡ hops (runUnder (setOf s) (faultOf Nothing) u t)
+      → extra ≡ back - plain
+      → record { via = via; kind = kind; topology = p .topology; next = p .place; hops = back; extra = extra } ≡ seenBy (setOf s) u t
+  unfolding seenBy faultOf detection backupHops plainHops extraHops detectedLink
+  seen-of u t via l back plain extra st p kind P e0 e1 e2 e3 e4 e5 e6 e7 =
+      let S = setOf s in
+      let v : via ≡ nextHop S 0 u t = e0 ∙ same-next u t P in
+      let d : l ≡ detectedLink S u t = e1 ∙ ap (linkBetween S u) v in
+      let x : st ≡ detection S u t = e2 ∙ same-step (Link l) u t P ∙ ap (λ (y : ℕ). step S (tablesOf S) (up S (link y)) (packet u t 0)) d in
+      let q : p ≡ packetOf (detection S u t) = e3 ∙ ap packetOf x in
+      let k : kind ≡ kindOf (detection S u t) = e4 ∙ ap kindOf x in
+      let b : back ≡ backupHops S u t = e5 ∙ ap (λ (y : ℕ). hops (runUnder S (link y) u t)) d in
+      let a : extra ≡ extraHops S u t = e7 ∙ ap₂ (λ (y z : ℕ). y - z) b e6 in
+      λ i. record { via = v i; kind = k i; topology = q i .topology; next = q i .place; hops = b i; extra = a i }
+
+pub over-none : (x y : ℕ) → x < y → 0 ≡ x - y
+over-none x y h = omega arith
+
+pub ruleset seens = (kind-delivered, kind-moved, kind-dropped, packet-delivered, packet-moved, packet-dropped, first-table, hops-of, seen-of, over-none)

@@ -1,0 +1,77 @@
+// The report on a set: what each router does, and how far its packets go, where the link to its next hop is down; one line for each
+// node and each other destination, so that both ends of every link stand in it. The entry `report` takes every file; its promise
+// fixes the text, byte for byte, or the refusal. `print` promises the text that the report program prints, the refusal's line too.
+pub mod text; // text.rt: bytes, numbers and letters at a cursor
+pub mod seen; // seen.rt: what a detecting node sees
+pub mod lines; // lines.rt: the lines and the whole text
+
+use housefile::header;
+use lines::write;
+use rules::LengthAnswer;
+use rules::Network;
+use filetables::tables;
+use text::labelled;
+use text::put;
+ghost use mathlib.Core.Path.{_≡_};
+ghost use lib.ListN.{length};
+ghost use Rattle.rules.specs.Report.{refusalLine};
+ghost use Rattle.rules.specs.Entries.{Promise, reportEntry};
+ghost use Rattle.report.specs.Text.{Wrote};
+ghost use Rattle.report.specs.Answer.{Made, Says, Printed};
+
+// Room for the longest tables.
+fn tables_room() -> [u8; Network::LONGEST_TABLES]
+    ensures { λ r. ⌜ length r ≡ 34816 ⌝ }
+{
+    [0; Network::LONGEST_TABLES]
+}
+
+// The report by the tables that were made, or the refusal that came in their place.
+fn report_by(made: LengthAnswer, file: &[u8], tables: &[u8], text: &mut [u8]) -> LengthAnswer
+    requires { ⌜ Made (now file) made (now tables) ⌝ }
+    requires { ⌜ length (now text) ≡ 22875 ⌝ }
+    ensures { λ r. ⌜ Promise reportEntry (now (file .entry)) (now (text .entry)) r (now (text .exit)) ⌝ }
+{
+    match made {
+        LengthAnswer::Length(_) => LengthAnswer::Length(write(file, header(file), tables, text)),
+        LengthAnswer::Refused { number, place } => LengthAnswer::Refused { number, place },
+    }
+}
+
+// The report on a file's set, from its first byte on; or the refusal, and every byte of the text as it came.
+pub fn report(file: &[u8], text: &mut [u8; Network::LONGEST_REPORT]) -> LengthAnswer
+    ensures { λ r. ⌜ Promise reportEntry (now (file .entry)) (now (text .entry)) r (now (text .exit)) ⌝ }
+{
+    let mut room = tables_room();
+    let made = tables(file, &mut room);
+    report_by(made, file, &room, text)
+}
+
+// ---- what the report program prints
+
+// The line of a refusal.
+fn refusal(text: &mut [u8], refused: u8, place: usize) -> usize
+    ensures { λ r. ⌜ Wrote (now (text .entry)) 0 (refusalLine refused place) 73 r (now (text .exit)) ⌝ }
+{
+    let at = labelled(text, 0, b"refused ", refused as usize);
+    let end = labelled(text, at, b" at ", place);
+    put(text, end, b'\n')
+}
+
+// The length of the text, where the report was written; else the refusal's line.
+fn say(answer: LengthAnswer, text: &mut [u8]) -> usize
+    ensures { λ r. ⌜ Says answer (now (text .entry)) r (now (text .exit)) ⌝ }
+{
+    match answer {
+        LengthAnswer::Length(long) => long,
+        LengthAnswer::Refused { number, place } => refusal(text, number, place),
+    }
+}
+
+// The report, or the line of the refusal, from the text's first byte on; returns how many bytes it has.
+pub fn print(file: &[u8], text: &mut [u8; Network::LONGEST_REPORT]) -> usize
+    ensures { λ r. ⌜ Printed (now (file .entry)) (now (text .entry)) r (now (text .exit)) ⌝ }
+{
+    let answer = report(file, text);
+    say(answer, text)
+}

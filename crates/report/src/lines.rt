@@ -1,0 +1,161 @@
+// The lines of the report, and the whole text.
+use crate::seen::Seen;
+use crate::seen::detect;
+use crate::text::copy;
+use crate::text::field;
+use crate::text::labelled;
+use crate::text::letter;
+use crate::text::number;
+use crate::text::put;
+use rules::Kind;
+use rules::Network;
+ghost use mathlib.Core.Path.{_≡_};
+ghost use Prim.Native.Nat.{_*_, _-_, _≤_, _<_};
+ghost use Rattle.rules.specs.File.{setOf};
+ghost use Rattle.rules.specs.Report.{headerLine, detectionLines, reportText};
+ghost use Rattle.report.specs.Text.{Wrote};
+ghost use Rattle.report.specs.Lines.{Ready, Pair, headOf, changeOf, tailOf, lineOf, lineFor, nodeLines, lastOf};
+
+// ---- a line
+
+// The detecting node, its next hop, the destination.
+fn head(text: &mut [u8], at: usize, u: u8, via: u8, t: u8) -> usize
+    requires { ⌜ at < 1048576 ⌝ }
+    ensures { λ r. ⌜ Wrote (now (text .entry)) at (headOf u via t) 63 r (now (text .exit)) ⌝ }
+{
+    let second = field(text, at, u);
+    let third = field(text, second, via);
+    field(text, third, t)
+}
+
+// The kind, the topology changed to, the neighbour taken.
+fn change(text: &mut [u8], at: usize, kind: Kind, topology: u8, next: u8) -> usize
+    requires { ⌜ at < 2097152 ⌝ }
+    ensures { λ r. ⌜ Wrote (now (text .entry)) at (changeOf kind topology next) 44 r (now (text .exit)) ⌝ }
+{
+    let space = put(text, at, letter(kind));
+    let second = put(text, space, b' ');
+    let third = field(text, second, topology);
+    field(text, third, next)
+}
+
+// The hops, the extra hops, the line's end.
+fn tail(text: &mut [u8], at: usize, hops: u8, extra: u8) -> usize
+    requires { ⌜ at < 2097152 ⌝ }
+    ensures { λ r. ⌜ Wrote (now (text .entry)) at (tailOf hops extra) 42 r (now (text .exit)) ⌝ }
+{
+    let second = field(text, at, hops);
+    let end = number(text, second, extra as usize);
+    put(text, end, b'\n')
+}
+
+fn line(text: &mut [u8], at: usize, u: u8, t: u8, seen: Seen) -> usize
+    requires { ⌜ at < 1048576 ⌝ }
+    ensures { λ r. ⌜ Wrote (now (text .entry)) at (lineOf u t seen) 149 r (now (text .exit)) ⌝ }
+{
+    let second = head(text, at, u, seen.via, t);
+    let kind = seen.kind;
+    let third = change(text, second, kind, seen.topology, seen.next);
+    tail(text, third, seen.hops, seen.extra)
+}
+
+// ---- the lines in order
+
+// Node u's line for t, or none where t is u itself.
+fn line_for(
+    file: &[u8],
+    net: Network,
+    tables: &[u8],
+    u: u8,
+    t: u8,
+    text: &mut [u8],
+    at: usize,
+) -> usize
+    requires { ⌜ Ready (now file) net (now tables) ⌝ }
+    requires { ⌜ Pair net u t ⌝ }
+    requires { ⌜ at < 1048576 ⌝ }
+    ensures { λ r. ⌜ Wrote (now (text .entry)) at (lineFor (setOf (now (file .entry))) u t) 149 r (now (text .exit)) ⌝ }
+{
+    if u == t {
+        return at;
+    }
+    let seen = detect(file, net, tables, u, t);
+    line(text, at, u, t, seen)
+}
+
+// Node u's lines, by destination.
+fn node_lines(
+    file: &[u8],
+    net: Network,
+    tables: &[u8],
+    u: u8,
+    text: &mut [u8],
+    start: usize,
+) -> usize
+    requires { ⌜ Ready (now file) net (now tables) ⌝ }
+    requires { ⌜ (u < net .n) × (start < 524288) ⌝ }
+    ensures { λ r. ⌜ Wrote (now (text .entry)) start (nodeLines (setOf (now (file .entry))) u) 4768 r (now (text .exit)) ⌝ }
+{
+    let n = net.n;
+    let mut at = start;
+    let mut t: u8 = 0;
+    while t < n {
+        at = line_for(file, net, tables, u, t, text, at);
+        t += 1;
+    }
+    at
+}
+
+// The lines of all nodes.
+fn all_lines(file: &[u8], net: Network, tables: &[u8], text: &mut [u8], start: usize) -> usize
+    requires { ⌜ Ready (now file) net (now tables) ⌝ }
+    requires { ⌜ start ≤ 44 ⌝ }
+    ensures { λ r. ⌜ Wrote (now (text .entry)) start (detectionLines (setOf (now (file .entry)))) 152576 r (now (text .exit)) ⌝ }
+{
+    let n = net.n;
+    let mut at = start;
+    let mut u: u8 = 0;
+    while u < n {
+        at = node_lines(file, net, tables, u, text, at);
+        u += 1;
+    }
+    at
+}
+
+// ---- the whole text
+
+// The header line never varies.
+fn header(text: &mut [u8]) -> usize
+    ensures { λ r. ⌜ Wrote (now (text .entry)) 0 headerLine 44 r (now (text .exit)) ⌝ }
+{
+    copy(text, 0, b"node via dest kind topology next hops extra\n")
+}
+
+// How many ordered pairs of different nodes there are.
+fn detections(n: u8) -> usize
+    requires { ⌜ (3 ≤ n) × (n ≤ 32) ⌝ }
+    ensures { λ r. ⌜ r ≡ n * (n - 1) ⌝ }
+{
+    let n = n as usize;
+    n * (n - 1)
+}
+
+// The last line: how many detections there are.
+fn last_line(n: u8, text: &mut [u8], at: usize) -> usize
+    requires { ⌜ (3 ≤ n) × (n ≤ 32) ⌝ }
+    requires { ⌜ at < 1048576 ⌝ }
+    ensures { λ r. ⌜ Wrote (now (text .entry)) at (lastOf n) 37 r (now (text .exit)) ⌝ }
+{
+    let end = labelled(text, at, b"detections ", detections(n));
+    put(text, end, b'\n')
+}
+
+// The whole text of an accepted file's report; returns its length.
+pub fn write(file: &[u8], net: Network, tables: &[u8], text: &mut [u8]) -> usize
+    requires { ⌜ Ready (now file) net (now tables) ⌝ }
+    ensures { λ r. ⌜ Wrote (now (text .entry)) 0 (reportText (setOf (now (file .entry)))) 152657 r (now (text .exit)) ⌝ }
+{
+    let first = header(text);
+    let last = all_lines(file, net, tables, text, first);
+    last_line(net.n, text, last)
+}

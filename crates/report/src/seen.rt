@@ -1,0 +1,123 @@
+// What a detecting node sees: its next hop in topology 0, what it does where the link to it is down, and the hops from there on.
+// `tables` are the file's own.
+use forwarding::hop::link_between;
+use forwarding::hop::take;
+use order::most_hops;
+use order::times;
+use forwarding::travel::travel;
+use housefile::byte;
+use rules::Failure;
+use rules::Kind;
+use rules::Network;
+use rules::Packet;
+use rules::Step;
+ghost use mathlib.Core.Path.{_≡_};
+ghost use Prim.Native.Nat.{_-_};
+ghost use lib.ListN.{length, getD};
+ghost use Rattle.rules.specs.File.{setOf};
+ghost use Rattle.rules.specs.Forwarding.{faultOf, entryPlace, hops};
+ghost use Rattle.rules.specs.Report.{kindOf, packetOf, runUnder};
+ghost use Rattle.report.specs.Lines.{Ready, Pair, seenBy};
+
+// The fields of a line after its node and destination.
+pub struct Seen {
+    pub via: u8,
+    pub kind: Kind,
+    pub topology: u8,
+    pub next: u8,
+    pub hops: u8,
+    pub extra: u8,
+}
+
+// The next hop at u for t in topology 0.
+fn next_hop(tables: &[u8], net: Network, u: u8, t: u8) -> u8
+    ensures { λ r. ⌜ r ≡ getD (now (tables .entry)) (entryPlace net 0 u t) 0 ⌝ }
+{
+    let row = times(u as usize, net.n as usize);
+    byte(tables, row + (t as usize))
+}
+
+// The kind of a step's change.
+fn kind_of(s: Step) -> Kind
+    ensures { λ r. ⌜ r ≡ kindOf s ⌝ }
+{
+    match s {
+        Step::Delivered(_) => Kind::Unchanged,
+        Step::Moved(_, kind) => kind,
+        Step::Dropped(_) => Kind::Unchanged,
+    }
+}
+
+// The packet after a step.
+fn packet_of(s: Step) -> Packet
+    ensures { λ r. ⌜ r ≡ packetOf s ⌝ }
+{
+    match s {
+        Step::Delivered(p) => p,
+        Step::Moved(p, _) => p,
+        Step::Dropped(p) => p,
+    }
+}
+
+// Room for the longest trail.
+fn trail_room() -> [u8; Network::LONGEST_TRAIL]
+    ensures { λ r. ⌜ length r ≡ 62 ⌝ }
+{
+    [0; Network::LONGEST_TRAIL]
+}
+
+// How many hops a packet makes from u to t under this failure.
+fn hops_under(file: &[u8], net: Network, tables: &[u8], failure: Failure, u: u8, t: u8) -> u8
+    requires { ⌜ Ready (now file) net (now tables) ⌝ }
+    requires { ⌜ Pair net u t ⌝ }
+    ensures { λ r. ⌜ r ≡ hops (runUnder (setOf (now (file .entry))) (faultOf failure) u t) ⌝ }
+{
+    let start = Packet {
+        place: u,
+        destination: t,
+        topology: 0,
+    };
+    let most = most_hops(net);
+    let mut trail = trail_room();
+    let j = travel(file, net, tables, failure, start, most, &mut trail);
+    j.hops
+}
+
+// How much x is over y, or 0.
+fn over(x: u8, y: u8) -> u8
+    ensures { λ r. ⌜ r ≡ x - y ⌝ }
+{
+    if x < y {
+        return 0;
+    }
+    x - y
+}
+
+// What node u sees of a packet for t where the link to its next hop is down.
+pub fn detect(file: &[u8], net: Network, tables: &[u8], u: u8, t: u8) -> Seen
+    requires { ⌜ Ready (now file) net (now tables) ⌝ }
+    requires { ⌜ Pair net u t ⌝ }
+    ensures { λ r. ⌜ r ≡ seenBy (setOf (now (file .entry))) u t ⌝ }
+{
+    let start = Packet {
+        place: u,
+        destination: t,
+        topology: 0,
+    };
+    let via = next_hop(tables, net, u, t);
+    let down = Failure::Link(link_between(file, net, u, via));
+    let s = take(file, net, tables, down, start);
+    let p = packet_of(s);
+    let kind = kind_of(s);
+    let hops = hops_under(file, net, tables, down, u, t);
+    let plain = hops_under(file, net, tables, Failure::Nothing, u, t);
+    let extra = over(hops, plain);
+    Seen {
+        via,
+        kind,
+        topology: p.topology,
+        next: p.place,
+        hops,
+        extra,
+    }
+}
