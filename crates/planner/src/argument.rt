@@ -2,10 +2,15 @@
 use housefile::byte;
 use libc::STDERR_FILENO;
 
+// The graph's own count of nodes, or a number.
 pub enum Cap {
     Own,
     Given(u8),
-    Bad,
+}
+
+pub enum Asked {
+    Clear(Cap),
+    Unclear,
 }
 
 // Stands for what is no number from 0 to 255.
@@ -39,27 +44,28 @@ fn number(text: &[u8]) -> u16 {
     value
 }
 
-fn given(value: u16) -> Cap {
+fn given(value: u16) -> Asked {
     if value > 255 {
-        return Cap::Bad;
+        return Asked::Unclear;
     }
-    Cap::Given(value as u8)
+    Asked::Clear(Cap::Given(value as u8))
 }
 
 // The first argument; one that is too long for its room is no number either.
-fn first() -> Cap {
+fn first() -> Asked {
     let mut text = [0u8; 8];
     let long = os::arg(1, &mut text);
     given(number(&text[..long]))
 }
 
-pub fn asked() -> Cap {
+// The arguments are counted with the program's own name.
+pub fn read() -> Asked {
     let count = os::arg_count();
     if count < 2 {
-        return Cap::Own;
+        return Asked::Clear(Cap::Own);
     }
     if count > 2 {
-        return Cap::Bad;
+        return Asked::Unclear;
     }
     first()
 }

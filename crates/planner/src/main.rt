@@ -3,6 +3,7 @@
 // standard output.
 mod argument; // argument.rt: the cap that is asked for
 
+use argument::Asked;
 use argument::Cap;
 use libc::STDERR_FILENO;
 use libc::STDIN_FILENO;
@@ -68,13 +69,19 @@ fn plan(graph: &[u8], cap: Cap) {
     match cap {
         Cap::Own => build(graph, own_cap(graph)),
         Cap::Given(most) => build(graph, most),
-        Cap::Bad => argument::expected(),
     }
 }
 
-fn main() {
-    let cap = argument::asked();
+fn read_and_plan(cap: Cap) {
     let mut graph = input();
     let long = io::read_full(STDIN_FILENO, &mut graph);
     plan(&graph[..long], cap);
+}
+
+fn main() {
+    let asked = argument::read();
+    match asked {
+        Asked::Clear(cap) => read_and_plan(cap),
+        Asked::Unclear => argument::expected(),
+    }
 }
