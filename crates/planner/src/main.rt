@@ -1,0 +1,87 @@
+// The planner: a graph from standard input, and the set that the builder makes of it on standard output. The cap is the first
+// argument, or else the graph's own count of nodes, which always suffices. A refusal goes to standard error, and nothing to
+// standard output.
+mod argument; // argument.rt: the cap that is asked for
+
+use argument::Asked;
+use argument::Cap;
+use libc::STDERR_FILENO;
+use libc::STDIN_FILENO;
+use libc::STDOUT_FILENO;
+use rules::LengthAnswer;
+use rules::Network;
+ghost use mathlib.Core.Path.{_≡_};
+ghost use lib.ListN.{length};
+
+// One byte more than the longest file, so that a longer one is refused.
+fn input() -> [u8; 9193]
+    ensures { λ r. ⌜ 9193 ≡ length r ⌝ }
+{
+    [0; 9193]
+}
+
+fn output() -> [u8; 9192]
+    ensures { λ r. ⌜ 9192 ≡ length r ⌝ }
+{
+    [0; 9192]
+}
+
+fn refused(number: u8, place: usize) {
+    io::write_all(STDERR_FILENO, b"refused ");
+    io::print_decimal(STDERR_FILENO, number as u64);
+    io::write_all(STDERR_FILENO, b" at ");
+    io::print_decimal(STDERR_FILENO, place as u64);
+    io::write_all(STDERR_FILENO, b"\n");
+}
+
+fn write_front(file: &[u8], long: usize) {
+    if long <= file.len() {
+        io::write_all(STDOUT_FILENO, &file[..long]);
+    }
+}
+
+fn build_into(graph: &[u8], cap: u8, file: &mut [u8]) {
+    let r = builder::build(graph, cap, file);
+    match r {
+        LengthAnswer::Length(long) => write_front(file, long),
+        LengthAnswer::Refused { number, place } => refused(number, place),
+    }
+}
+
+fn build(graph: &[u8], cap: u8) {
+    let mut file = output();
+    build_into(graph, cap, &mut file);
+}
+
+// The graph's count of nodes, or the largest cap where it is out of range.
+fn own_cap(graph: &[u8]) -> u8 {
+    let n = housefile::header(graph).n;
+    if n < Network::MIN_NODES {
+        return Network::MAX_CAP;
+    }
+    if n > Network::MAX_NODES {
+        return Network::MAX_CAP;
+    }
+    n
+}
+
+fn plan(graph: &[u8], cap: Cap) {
+    match cap {
+        Cap::Own => build(graph, own_cap(graph)),
+        Cap::Given(most) => build(graph, most),
+    }
+}
+
+fn read_and_plan(cap: Cap) {
+    let mut graph = input();
+    let long = io::read_full(STDIN_FILENO, &mut graph);
+    plan(&graph[..long], cap);
+}
+
+fn main() {
+    let asked = argument::read();
+    match asked {
+        Asked::Clear(cap) => read_and_plan(cap),
+        Asked::Unclear => argument::expected(),
+    }
+}

@@ -1,0 +1,137 @@
+// The trace: a set from standard input, and a question as arguments: what is down, a source and a destination. One line on standard
+// output for each hop of the packet, seen from the node that makes it, and a last line that says how the run ended; or the refusal.
+mod argument; // argument.rt: the numbers and words among the arguments
+mod question; // question.rt: what is asked
+mod show; // show.rt: the lines
+
+use libc::STDIN_FILENO;
+use question::Asked;
+use question::Down;
+use question::Question;
+use rules::Failure;
+use rules::Journey;
+use rules::Packet;
+use rules::RunAnswer;
+use rules::Step;
+use rules::Verdict;
+ghost use mathlib.Core.Path.{_≡_};
+ghost use lib.ListN.{length};
+
+// One byte more than the longest file, so that a longer one is refused.
+fn input() -> [u8; 9193]
+    ensures { λ r. ⌜ 9193 ≡ length r ⌝ }
+{
+    [0; 9193]
+}
+
+fn tables_space() -> [u8; 34816]
+    ensures { λ r. ⌜ 34816 ≡ length r ⌝ }
+{
+    [0; 34816]
+}
+
+fn trail_space() -> [u8; 62]
+    ensures { λ r. ⌜ 62 ≡ length r ⌝ }
+{
+    [0; 62]
+}
+
+// ---- the hops
+
+// One hop, by the tables that the run left.
+fn hop(file: &[u8], tables: &[u8], failure: Failure, p: Packet) -> Step {
+    let net = housefile::header(file);
+    forwarding::hop::take(file, net, tables, failure, p)
+}
+
+// One hop and its line; the packet after it.
+fn seen(file: &[u8], tables: &[u8], failure: Failure, p: Packet) -> Packet {
+    let step = hop(file, tables, failure, p);
+    match step {
+        Step::Moved(q, kind) => {
+            show::hop(p, q, kind);
+            q
+        }
+        Step::Delivered(q) => q,
+        Step::Dropped(q) => q,
+    }
+}
+
+fn hops(file: &[u8], tables: &[u8], failure: Failure, start: Packet, count: u8) -> Packet {
+    let mut p = start;
+    let mut i: u8 = 0;
+    while i < count {
+        p = seen(file, tables, failure, p);
+        i += 1;
+    }
+    p
+}
+
+fn ended(file: &[u8], tables: &[u8], failure: Failure, q: Question, j: Journey) {
+    let start = Packet {
+        place: q.source,
+        destination: q.destination,
+        topology: 0,
+    };
+    let p = hops(file, tables, failure, start, j.hops);
+    show::end(j, p.place);
+}
+
+// ---- the run
+
+fn run_into(file: &[u8], q: Question, failure: Failure, tables: &mut [u8], trail: &mut [u8]) {
+    let r = forwarding::run(file, q.source, q.destination, failure, tables, trail);
+    match r {
+        RunAnswer::Ended(j) => ended(file, tables, failure, q, j),
+        RunAnswer::Refused { number, place } => show::refused(number, place),
+    }
+}
+
+fn run(file: &[u8], q: Question, failure: Failure) {
+    let mut tables = tables_space();
+    let mut trail = trail_space();
+    run_into(file, q, failure, &mut tables, &mut trail);
+}
+
+// The failed link by its two ends.
+fn run_link(file: &[u8], q: Question, a: u8, b: u8) {
+    let net = housefile::header(file);
+    let l = forwarding::hop::link_between(file, net, a, b);
+    if l < net.m {
+        run(file, q, Failure::Link(l));
+        return;
+    }
+    show::no_link(a, b);
+}
+
+fn answer(file: &[u8], q: Question) {
+    let down = q.down;
+    match down {
+        Down::Nothing => run(file, q, Failure::Nothing),
+        Down::Link(a, b) => run_link(file, q, a, b),
+        Down::Node(v) => run(file, q, Failure::Node(v)),
+    }
+}
+
+// A file that is refused has no links to look for.
+fn judged(file: &[u8], q: Question) {
+    let v = housefile::judge(file);
+    match v {
+        Verdict::Accepted => answer(file, q),
+        Verdict::Refused { number, place } => show::refused(number, place),
+    }
+}
+
+fn read_and_answer(q: Question) {
+    let mut file = input();
+    let long = io::read_full(STDIN_FILENO, &mut file);
+    judged(&file[..long], q);
+}
+
+fn main() {
+    let asked = question::read();
+    match asked {
+        Asked::Clear(q) => read_and_answer(q),
+        Asked::Unclear => question::expected(),
+    }
+}
