@@ -1,11 +1,11 @@
 // One hop of a packet by value, in the order of 01's rule. `net` is the header of `file`, and `tables` are read as they are.
-use order::square;
-use order::times;
 use housefile::byte;
 use housefile::end_a;
 use housefile::end_b;
 use housefile::home_records;
 use housefile::home_topology;
+use order::square;
+use order::times;
 use rules::Failure;
 use rules::Kind;
 use rules::Network;

@@ -275,14 +275,14 @@ module _ (S : Set) (A : AcceptedSet S) (u : ℕ) (lu : u < S .net .n) where
         let best = leastOf near d v (S .net .n) in
         let few = A .rules .limits .nodes .1 in
         let same = lowest-ext (chosen near d v best) published (S .net .n) 32
-            (λ w lw. ap₂ _&&_ (eligible-is v w) (ap₂ eqb (keys w lw) least-is-published)) in
+        (λ w lw. ap₂ _&&_ (eligible-is v w) (ap₂ eqb (keys w lw) least-is-published)) in
         sym (word-first near d v best (S .net .n) few ∙ same ∙ either (lowest-is published (S .net .n) 255))
       where
         -- an alternate is a candidate, and 255 is no node
         none : lowest published (S .net .n) 255 ≡ 255 → 255 < S .net .n
         none q =
             let is : alternate S u v ≡ 255 = if-yes (neighbours S u v && not (eqb (home S u) (home S v))) (nearest S u v (distances S (home S u) v)) 255
-                (and-of (neighbours S u v) (not (eqb (home S u) (home S v))) n (rw (ne-eqb (home S u) (home S v) ne))) ∙ q in
+            (and-of (neighbours S u v) (not (eqb (home S u) (home S v))) n (rw (ne-eqb (home S u) (home S v) ne))) ∙ q in
             let c : candidate S u v 255 ≡ true = rw is at (nearest-alternates S A u v lu lv n ne .chosen) in
             candidate-outlet S A u lu v 255 c .0 .node
 

@@ -158,7 +158,6 @@ pub bit-is : (y : ℕ) → y < 32 → (1 * 2 ^ y) % 4294967296 ≡ bitFor y
 unfolding bitFor
 bit-is y h = let p : 2 ^ y ≤ 2 ^ 31 = lib.Pow.pow-mono {i = y} {j = 31} (omega arith) in omega (arith, p)
 
-
 -- ---- `first`, `hop`
 pub first-is : (w : ℕ) → trailingZeros 32 w ≡ firstOf w
 unfolding firstOf

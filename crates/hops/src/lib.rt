@@ -196,7 +196,14 @@ fn hop_rows(w: &[[u32; 32]], out: &mut [u8])
 }
 
 // The next hops of a topology whose links cost c, by its distances d. w is room to work in.
-pub fn hop_table(a: &[u8], b: &[u8], c: &[u32], d: &[[u32; 32]], w: &mut [[u32; 32]], out: &mut [u8])
+pub fn hop_table(
+    a: &[u8],
+    b: &[u8],
+    c: &[u32],
+    d: &[[u32; 32]],
+    w: &mut [[u32; 32]],
+    out: &mut [u8],
+)
     requires { ⌜ Wired (now a) (now b) (now c) (length (now d)) ⌝ }
     requires { ⌜ LowCols (now d) ⌝ }
     requires { ⌜ (length (now w) ≡ length (now d)) × (length (now out) ≡ length (now d) * length (now d)) ⌝ }
@@ -369,7 +376,15 @@ fn alternates_of(a: &[u8], b: &[u8], homes: &[u8], d: &[[u32; 32]], u: usize) ->
 }
 
 // Into row u of alts, where the home of u is i.
-fn alternates_at(a: &[u8], b: &[u8], homes: &[u8], i: u8, d: &[[u32; 32]], u: usize, alts: &mut [[u8; 32]])
+fn alternates_at(
+    a: &[u8],
+    b: &[u8],
+    homes: &[u8],
+    i: u8,
+    d: &[[u32; 32]],
+    u: usize,
+    alts: &mut [[u8; 32]],
+)
     requires { ⌜ Homed (now a) (now b) (now homes) (length (now homes)) ⌝ }
     requires { ⌜ (length (now d) ≤ 32) × (u < length (now homes)) × (u < length (now alts)) ⌝ }
     ensures { λ _. ⌜ RowAt (now (a .entry)) (now (b .entry)) (now (homes .entry)) i (now (d .entry)) u (now (alts .entry)) (now (alts .exit)) ⌝ }

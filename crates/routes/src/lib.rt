@@ -71,7 +71,16 @@ fn cost(c: &[u32], l: usize) -> u32
     c[l]
 }
 
-fn link_cost(a: &[u8], b: &[u8], homes: &[u8], row: &[u16], i: u8, r: u32, m: usize, l: usize) -> u32
+fn link_cost(
+    a: &[u8],
+    b: &[u8],
+    homes: &[u8],
+    row: &[u16],
+    i: u8,
+    r: u32,
+    m: usize,
+    l: usize,
+) -> u32
     requires { ⌜ Links (now a) (now b) (now homes) (now row) m ⌝ }
     requires { ⌜ l < m ⌝ }
     ensures { λ s. ⌜ s ≡ costAt (now (a .entry)) (now (b .entry)) (now (homes .entry)) (now (row .entry)) i r l ⌝ }
@@ -237,4 +246,3 @@ pub fn distances(a: &[u8], b: &[u8], c: &[u32], d: &mut [[u32; 32]])
     begin(d);
     settle(a, b, c, d);
 }
-

@@ -2,7 +2,6 @@
 // `fill_tables` promises that the lent bytes become exactly those of the definitions. Each topology's distances are made once: its next
 // hops and the alternates of the nodes whose home it is are taken while they are at hand. All room to work in is local.
 use rules::Network;
-
 ghost use mathlib.Core.Path.{_≡_};
 ghost use Prim.Native.Nat.{ℕ, suc, _+_, _*_, _≤_, _<_};
 ghost use mathlib.Core.List.{List, []};
@@ -26,7 +25,16 @@ fn restricted_weight(net: Network) -> u32
 }
 
 // The cost of every link in topology i.
-fn costs<'a>(net: Network, a: &[u8], b: &[u8], weights: &'a [u16], homes: &[u8], rows: &'a [u16], i: u8, c: &mut [u32])
+fn costs<'a>(
+    net: Network,
+    a: &[u8],
+    b: &[u8],
+    weights: &'a [u16],
+    homes: &[u8],
+    rows: &'a [u16],
+    i: u8,
+    c: &mut [u32],
+)
     requires { ⌜ AcceptedSet (setWith net (lists (now a) (now b) (now weights) (now homes) (now rows))) ⌝ }
     requires { ⌜ (i ≤ net .k) × (length (now c) ≡ net .m) ⌝ }
     ensures { λ _. ⌜ now (c .exit) ≡ upTo (cost (setWith net (lists (now (a .entry)) (now (b .entry)) (now (weights .entry)) (now (homes .entry)) (now (rows .entry)))) i) (net .m) ⌝ }
@@ -38,7 +46,17 @@ fn costs<'a>(net: Network, a: &[u8], b: &[u8], weights: &'a [u16], homes: &[u8],
 }
 
 // The costs c and the distances d of topology i.
-fn measure<'a>(net: Network, a: &[u8], b: &[u8], weights: &'a [u16], homes: &[u8], rows: &'a [u16], i: u8, c: &mut [u32], d: &mut [[u32; 32]])
+fn measure<'a>(
+    net: Network,
+    a: &[u8],
+    b: &[u8],
+    weights: &'a [u16],
+    homes: &[u8],
+    rows: &'a [u16],
+    i: u8,
+    c: &mut [u32],
+    d: &mut [[u32; 32]],
+)
     requires { ⌜ AcceptedSet (setWith net (lists (now a) (now b) (now weights) (now homes) (now rows))) ⌝ }
     requires { ⌜ (i ≤ net .k) × (length (now c) ≡ net .m) × (length (now d) ≡ net .n) ⌝ }
     ensures { λ _. ⌜ Ready (setWith net (lists (now (a .entry)) (now (b .entry)) (now (weights .entry)) (now (homes .entry)) (now (rows .entry)))) i (now (c .exit)) (now (d .exit)) ⌝ }
@@ -97,7 +115,20 @@ fn topology_at<'a>(
 {
     let n = net.n as usize;
     let to = at + n * n;
-    topology(net, a, b, weights, homes, rows, i, c, d, w, alts, &mut out[at..to]);
+    topology(
+        net,
+        a,
+        b,
+        weights,
+        homes,
+        rows,
+        i,
+        c,
+        d,
+        w,
+        alts,
+        &mut out[at..to],
+    );
 }
 
 // Every topology: the next hops one after the other, and into alts the alternates of all nodes.
@@ -180,7 +211,19 @@ fn all_tables<'a>(
 {
     let n = net.n as usize;
     let split = out.len() - n * n;
-    topologies(net, a, b, weights, homes, rows, c, d, w, alts, &mut out[..split]);
+    topologies(
+        net,
+        a,
+        b,
+        weights,
+        homes,
+        rows,
+        c,
+        d,
+        w,
+        alts,
+        &mut out[..split],
+    );
     copy_rows(alts, &mut out[split..]);
 }
 

@@ -1,6 +1,5 @@
 // `fill_tables` under a plain name, for the benchmark to link. It promises what `fill_tables` does; its caller owes an accepted set.
 use rules::Network;
-
 ghost use mathlib.Core.Path.{_≡_};
 ghost use lib.ListN.{length};
 ghost use Rattle.rules.specs.Limits.{tablesLength};
@@ -25,6 +24,11 @@ pub extern "C" fn burnishpeg_fill_tables<'a>(
     requires { ⌜ length (now out) ≡ tablesLength (record { n = n; m = m; k = k; wmax = wmax }) ⌝ }
     ensures { λ _. ⌜ now (out .exit) ≡ tableBytes (setWith (record { n = n; m = m; k = k; wmax = wmax }) (lists (now (a .entry)) (now (b .entry)) (now (weights .entry)) (now (homes .entry)) (now (rows .entry)))) ⌝ }
 {
-    let net = Network { n: n, m: m, k: k, wmax: wmax };
+    let net = Network {
+        n: n,
+        m: m,
+        k: k,
+        wmax: wmax,
+    };
     tables::fill_tables(net, a, b, weights, homes, rows, out);
 }

@@ -58,8 +58,7 @@ loop-again : tie.Need-loop-again Inv-loop μ-loop
 loop-again c =
     let p = c .before .before .before .before .before .before .before .before .before .before .before .before .before .before .before .before .before .before .before .before .before .before .before .pre in
     let i = c .before .before .before .before .before .before .before .before .before .before .before .before .before .before .loop .inv in
-    let h = c .before .before .before .before .before .before .before .before .before .before .before .before .before .loop-test .taken in
-    (
+    let h = c .before .before .before .before .before .before .before .before .before .before .before .before .before .loop-test .taken in (
       search needs,
       search needs,
       search needs,
