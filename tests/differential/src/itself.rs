@@ -3,12 +3,12 @@
 
 use crate::answer::{answer, read_value, run_value, step_value};
 use crate::entries::{Counts, Entries, LentLists, RunAsk, StepAsk};
-use crate::peer::builder::build;
-use crate::peer::distance::tables;
-use crate::peer::file::{read, write, ListRooms, Lists};
-use crate::peer::forward::{run, step, Ask, Packet};
-use crate::peer::report::report;
-use crate::peer::rules::check;
+use crate::model::builder::build;
+use crate::model::distance::tables;
+use crate::model::file::{read, write, ListRooms, Lists};
+use crate::model::forward::{run, step, Ask, Packet};
+use crate::model::report::report;
+use crate::model::rules::check;
 
 pub struct Itself;
 
