@@ -17,6 +17,19 @@ mod model;
 use entries::{Counts, Entries, LentLists, RunAsk, StepAsk};
 use itself::Itself;
 
+/// Whether the fault with this number is the one asked for. `faults.sed` puts the calls into a copy of the model.
+fn fault(number: u32) -> bool {
+    static ASKED: std::sync::OnceLock<u32> = std::sync::OnceLock::new();
+    let asked = || std::env::var("FAULT").ok().and_then(|text| text.parse().ok()).unwrap_or(0);
+    *ASKED.get_or_init(asked) == number
+}
+
+/// An answer, or a number that is no answer where a fault made the model stop.
+fn answered(call: impl FnOnce() -> u64) -> u64 {
+    std::panic::set_hook(Box::new(|_| ()));
+    std::panic::catch_unwind(std::panic::AssertUnwindSafe(call)).unwrap_or(u64::MAX)
+}
+
 // Safety, for every function below: the caller keeps the header's terms, so each pointer and length is one lent buffer.
 unsafe fn lent<'a, T>(at: *mut T, length: usize) -> &'a mut [T] {
     std::slice::from_raw_parts_mut(at, length)
@@ -24,17 +37,17 @@ unsafe fn lent<'a, T>(at: *mut T, length: usize) -> &'a mut [T] {
 
 #[no_mangle]
 unsafe extern "C" fn burnishpeg_check(file: *mut u8, file_len: usize) -> u64 {
-    Itself.check(lent(file, file_len))
+    answered(|| Itself.check(lent(file, file_len)))
 }
 
 #[no_mangle]
 unsafe extern "C" fn burnishpeg_build(graph: *mut u8, graph_len: usize, cap: u8, out: *mut u8, out_len: usize) -> u64 {
-    Itself.build(lent(graph, graph_len), cap, lent(out, out_len))
+    answered(|| Itself.build(lent(graph, graph_len), cap, lent(out, out_len)))
 }
 
 #[no_mangle]
 unsafe extern "C" fn burnishpeg_tables(file: *mut u8, file_len: usize, tables: *mut u8, tables_len: usize) -> u64 {
-    Itself.tables(lent(file, file_len), lent(tables, tables_len))
+    answered(|| Itself.tables(lent(file, file_len), lent(tables, tables_len)))
 }
 
 #[no_mangle]
@@ -50,7 +63,7 @@ unsafe extern "C" fn burnishpeg_step(
     failed: u16,
 ) -> u64 {
     let ask = StepAsk { place, destination, topology, failure, failed };
-    Itself.step(lent(file, file_len), lent(tables, tables_len), ask)
+    answered(|| Itself.step(lent(file, file_len), lent(tables, tables_len), ask))
 }
 
 #[no_mangle]
@@ -67,12 +80,12 @@ unsafe extern "C" fn burnishpeg_run(
     trail_len: usize,
 ) -> u64 {
     let ask = RunAsk { source, destination, failure, failed };
-    Itself.run(lent(file, file_len), ask, lent(tables, tables_len), lent(trail, trail_len))
+    answered(|| Itself.run(lent(file, file_len), ask, lent(tables, tables_len), lent(trail, trail_len)))
 }
 
 #[no_mangle]
 unsafe extern "C" fn burnishpeg_report(file: *mut u8, file_len: usize, text: *mut u8, text_len: usize) -> u64 {
-    Itself.report(lent(file, file_len), lent(text, text_len))
+    answered(|| Itself.report(lent(file, file_len), lent(text, text_len)))
 }
 
 #[no_mangle]
@@ -97,7 +110,7 @@ unsafe extern "C" fn burnishpeg_read(
         homes: lent(homes, homes_len),
         rows: lent(rows, rows_len),
     };
-    Itself.read(lent(file, file_len), lists)
+    answered(|| Itself.read(lent(file, file_len), lists))
 }
 
 #[no_mangle]
@@ -126,5 +139,5 @@ unsafe extern "C" fn burnishpeg_write(
         homes: lent(homes, homes_len),
         rows: lent(rows, rows_len),
     };
-    Itself.write(Counts { n, m, k, wmax }, lists, lent(out, out_len))
+    answered(|| Itself.write(Counts { n, m, k, wmax }, lists, lent(out, out_len)))
 }
