@@ -2,9 +2,9 @@
 
 use super::{every_entry, small_files, Plan, AMPLE_LISTS};
 use crate::compare::Comparer;
-use crate::make::{careless_set, most_links, some_set};
+use crate::make::{any_homes, careless_set, loose_graph, set_with, some_set};
 use crate::model::file::{file_length, file_of, judge};
-use crate::model::MOST_NODES;
+use crate::model::{Network, MOST_NODES};
 use crate::random::Random;
 
 /// Every position of small files: every bit flipped, and some other bytes, given to every entry; in the smallest set and graph
@@ -162,10 +162,10 @@ fn header(n: u8, m: u16, k: u8, wmax: u16) -> [u8; 8] {
 
 /// Good files with these counts and k at 0, 1 and n, then each count one further.
 fn good_at_bounds(comparer: &mut Comparer, random: &mut Random, n: usize, m: usize) {
-    let graph = crate::make::loose_graph(random, n, m);
+    let graph = loose_graph(random, n, m);
     for k in [0, 1, n] {
-        let homes = if k == 0 { vec![] } else { crate::make::any_homes(random, n, k) };
-        let file = file_of(&crate::make::set_with(random, &graph, k, homes));
+        let homes = if k == 0 { vec![] } else { any_homes(random, n, k) };
+        let file = file_of(&set_with(random, &graph, k, homes));
         assert!(judge(&file).is_ok());
         let _ = comparer.check(&file);
         let _ = comparer.read(&file, &AMPLE_LISTS);
@@ -178,21 +178,67 @@ fn good_at_bounds(comparer: &mut Comparer, random: &mut Random, n: usize, m: usi
     }
 }
 
-/// Two to four bytes changed at once, mostly by little: the order of the refusals decides the answer.
+/// Some fields of one record made wrong, each of them by chance: the order inside the record decides the answer.
+fn damage_record(random: &mut Random, net: &Network, file: &mut [u8]) {
+    let starts = record_starts(net.n, net.m, net.k);
+    let number = random.below(starts.len());
+    let at = starts[number];
+    if random.once_in(4) {
+        file[at + random.below(2)] ^= 1 << random.below(8);
+    }
+    let wrong_weight = random.pick(&[0, net.wmax.wrapping_add(1), 65_535]).to_be_bytes();
+    if number < net.m {
+        if random.once_in(2) {
+            let (n, a, b) = (net.n as u8, file[at + 2], file[at + 3]);
+            let ends = random.pick(&[(b, a), (a, a), (a, n), (n, n + 1), (a, 255), (0, 1), (0, b)]);
+            (file[at + 2], file[at + 3]) = ends;
+        }
+        if random.once_in(2) {
+            file[at + 4..at + 6].copy_from_slice(&wrong_weight);
+        }
+    } else if number < net.m + net.n {
+        if random.once_in(2) {
+            file[at + 2] = random.pick(&[0, file[at + 2].wrapping_add(1), file[at + 2].wrapping_sub(1), 255]);
+        }
+        if random.once_in(2) {
+            file[at + 3] = random.pick(&[0, 1, net.k as u8, net.k as u8 + 1, 255]);
+        }
+    } else {
+        if random.once_in(2) {
+            file[at + 2] = random.pick(&[0, 1, file[at + 2].wrapping_add(1), net.k as u8 + 1, 255]);
+        }
+        if random.once_in(2) {
+            let weight = at + 3 + 2 * random.below(net.m);
+            file[weight..weight + 2].copy_from_slice(&wrong_weight);
+        }
+    }
+}
+
+/// One byte after the header changed, mostly by little.
+fn damage_byte(random: &mut Random, n: usize, file: &mut [u8]) {
+    let at = random.between(8, file.len() - 1);
+    file[at] = match random.below(4) {
+        0 => file[at].wrapping_add(1),
+        1 => file[at].wrapping_sub(1),
+        2 => random.below(n + 1) as u8,
+        _ => random.byte(),
+    };
+}
+
+/// Several fields of a record or two, or two to four bytes anywhere, wrong at once: the order of the refusals decides.
 pub fn several(comparer: &mut Comparer, random: &mut Random, plan: &Plan) {
     for _ in 0..700 * plan.rounds {
         let n = random.between(3, 6);
         let net = if random.once_in(2) { some_set(random, n) } else { careless_set(random, n) };
-        assert!(net.m <= most_links(n));
         let mut file = file_of(&net);
-        for _ in 0..random.between(2, 4) {
-            let at = random.between(8, file.len() - 1);
-            file[at] = match random.below(4) {
-                0 => file[at].wrapping_add(1),
-                1 => file[at].wrapping_sub(1),
-                2 => random.below(n + 1) as u8,
-                _ => random.byte(),
-            };
+        if random.once_in(3) {
+            for _ in 0..random.between(2, 4) {
+                damage_byte(random, n, &mut file);
+            }
+        } else {
+            for _ in 0..random.between(1, 2) {
+                damage_record(random, &net, &mut file);
+            }
         }
         every_entry(comparer, random, &file);
     }

@@ -31,12 +31,13 @@ fn asks(random: &mut Random, net: &Network, most: usize) -> Vec<RunAsk> {
     }
 }
 
-/// The runs of an accepted set.
-pub fn every_run(comparer: &mut Comparer, random: &mut Random, file: &[u8], most: usize) {
+/// The runs of an accepted set, all that are within the work.
+pub fn every_run(comparer: &mut Comparer, random: &mut Random, file: &[u8], work: usize) {
     let Ok(sound) = comparer.sound(file) else {
         return;
     };
     let net = &sound.0;
+    let most = work / ((net.k + 1) * net.n * net.n * net.n);
     for ask in asks(random, net, most) {
         // Exact room and a little more: the rest must stay as it was.
         let more = random.below(3);
@@ -82,7 +83,7 @@ fn sets(random: &mut Random, rounds: usize) -> Vec<Vec<u8>> {
 
 pub fn runs(comparer: &mut Comparer, random: &mut Random, plan: &Plan) {
     for file in sets(random, 12 * plan.rounds) {
-        every_run(comparer, random, &file, plan.most_runs);
+        every_run(comparer, random, &file, plan.run_work);
     }
 }
 

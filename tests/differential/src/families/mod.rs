@@ -19,9 +19,10 @@ use crate::random::Random;
 pub struct Plan {
     /// Random inputs per family are this many times a family's own number.
     pub rounds: usize,
-    /// Sets with more runs than this have that many of them tried, drawn at random; the others have all of them tried.
-    pub most_runs: usize,
-    /// The same for packets walked by repeated steps.
+    /// Work for the runs of one set. Every run makes its own tables, so a run counts (k + 1) × n × n × n. Where all runs of a
+    /// set are within this, all are tried; otherwise as many as are within it, drawn by chance.
+    pub run_work: usize,
+    /// Packets of one set that are walked by repeated steps; all of them where there are no more.
     pub most_walks: usize,
 }
 

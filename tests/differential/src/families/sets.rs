@@ -39,7 +39,7 @@ pub fn examples(comparer: &mut Comparer, random: &mut Random, plan: &Plan) {
     ];
     for file in sets {
         whole(comparer, &file);
-        forwarding::every_run(comparer, random, &file, plan.most_runs);
+        forwarding::every_run(comparer, random, &file, plan.run_work);
     }
     let mut file = file_of(&triangle());
     for weight in [0, 3, 4] {
@@ -140,7 +140,7 @@ pub fn largest(comparer: &mut Comparer, random: &mut Random, plan: &Plan) {
         let file = file_of(&set);
         assert_eq!(file.len(), LONGEST_FILE);
         whole(comparer, &file);
-        forwarding::every_run(comparer, random, &file, plan.most_runs / 4);
+        forwarding::every_run(comparer, random, &file, plan.run_work);
         forwarding::every_walk(comparer, random, &file, plan.most_walks / 4);
         if let Ok(built) = comparer.build(&file_of(&graph), 32, LONGEST_FILE) {
             whole(comparer, &built);
@@ -151,7 +151,7 @@ pub fn largest(comparer: &mut Comparer, random: &mut Random, plan: &Plan) {
     for cap in [31, 32] {
         if let Ok(file) = comparer.build(&ring, cap, LONGEST_FILE) {
             whole(comparer, &file);
-            forwarding::every_run(comparer, random, &file, plan.most_runs / 4);
+            forwarding::every_run(comparer, random, &file, plan.run_work);
         }
     }
 }
