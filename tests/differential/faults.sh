@@ -28,10 +28,11 @@ tried=${*:-$(seq 0 "$last")}
 for fault in $tried; do
     status=0
     FAULT=$fault target/faults/release/differential short >"$work/out" || status=$?
+    family=$(grep ' comparisons; accepted' "$work/out" | tail -2 | head -1 | cut -d: -f1 | tr -s ' ')
     case "$fault $status" in
         "0 0") echo "no fault: no difference" ;;
         0*) echo "no fault: status $status"; missed=$((missed + 1)) ;;
-        *" 1") echo "fault $fault: found in$(grep ' comparisons; accepted' "$work/out" | tail -2 | head -1 | cut -d: -f1 | tr -s ' ')" ;;
+        *" 1") echo "fault $fault: found in$family" ;;
         *) echo "fault $fault: status $status, MISSED"; missed=$((missed + 1)) ;;
     esac
 done

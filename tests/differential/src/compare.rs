@@ -145,8 +145,7 @@ impl<'a> Comparer<'a> {
 
     pub fn step(&mut self, file: &[u8], tables: &[u8], ask: StepAsk) -> Result<Step, Refusal> {
         let StepAsk { place, destination, topology, failure, failed } = ask;
-        let packet =
-            Packet { place: place as usize, destination: destination as usize, topology: topology as usize };
+        let packet = Packet { place: place as usize, destination: destination as usize, topology: topology as usize };
         let model = self.set(file).and_then(|net| step_in(&net, tables, packet, failure, failed));
         let salt = self.salt();
         let (mut lent, mut lent_tables) = (Lent::of(file, salt), Lent::of(tables, salt + 1));
@@ -201,13 +200,8 @@ impl<'a> Comparer<'a> {
         let mut weights = Lent::<u16>::room(rooms.weights, salt + 3);
         let mut homes = Lent::<u8>::room(rooms.homes, salt + 4);
         let mut rows = Lent::<u16>::room(rooms.rows, salt + 5);
-        let lists = LentLists {
-            a: a.part(),
-            b: b.part(),
-            weights: weights.part(),
-            homes: homes.part(),
-            rows: rows.part(),
-        };
+        let lists =
+            LentLists { a: a.part(), b: b.part(), weights: weights.part(), homes: homes.part(), rows: rows.part() };
         let library = self.entries.read(lent.part(), lists);
         let given = model.as_ref().map(Lists::of).unwrap_or_else(|_| no_lists());
         let faults = [
@@ -229,13 +223,8 @@ impl<'a> Comparer<'a> {
         let (mut a, mut b) = (Lent::of(&lists.a, salt), Lent::of(&lists.b, salt + 1));
         let (mut weights, mut homes) = (Lent::of(&lists.weights, salt + 2), Lent::of(&lists.homes, salt + 3));
         let (mut rows, mut out) = (Lent::of(&lists.rows, salt + 4), Lent::room(room, salt + 5));
-        let lent = LentLists {
-            a: a.part(),
-            b: b.part(),
-            weights: weights.part(),
-            homes: homes.part(),
-            rows: rows.part(),
-        };
+        let lent =
+            LentLists { a: a.part(), b: b.part(), weights: weights.part(), homes: homes.part(), rows: rows.part() };
         let counts = Counts { n: lists.n, m: lists.m, k: lists.k, wmax: lists.wmax };
         let library = self.entries.write(counts, lent, out.part());
         let faults = [

@@ -33,8 +33,7 @@ impl Entries for Itself {
 
     fn step(&self, file: &mut [u8], tables: &mut [u8], ask: StepAsk) -> u64 {
         let StepAsk { place, destination, topology, failure, failed } = ask;
-        let packet =
-            Packet { place: place as usize, destination: destination as usize, topology: topology as usize };
+        let packet = Packet { place: place as usize, destination: destination as usize, topology: topology as usize };
         answer(step(file, tables, packet, failure, failed).map(|step| step_value(&step)))
     }
 

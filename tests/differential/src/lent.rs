@@ -30,7 +30,9 @@ impl<T: Element> Lent<T> {
     /// Room of this length. The pattern differs from call to call, so that a byte written with what was there by chance in
     /// one call shows in another.
     pub fn room(length: usize, salt: u64) -> Lent<T> {
-        let number = |at: usize| (at as u64 + 1).wrapping_mul(0x9E37_79B9).wrapping_add(salt.wrapping_mul(0x85EB_CA6B_27D4_EB4F));
+        let number = |at: usize| {
+            (at as u64 + 1).wrapping_mul(0x9E37_79B9).wrapping_add(salt.wrapping_mul(0x85EB_CA6B_27D4_EB4F))
+        };
         let all: Vec<T> = (0..length + 2 * GUARD).map(|at| T::patterned(number(at))).collect();
         Lent { before: all.clone(), all }
     }

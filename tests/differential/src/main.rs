@@ -20,7 +20,7 @@ use random::Random;
 /// About 20 seconds at most.
 const SHORT: Plan = Plan { rounds: 1, run_work: 40_000_000, most_walks: 1_500 };
 /// One seed of the long run.
-const LONG: Plan = Plan { rounds: 2, run_work: 400_000_000, most_walks: 8_000 };
+const LONG: Plan = Plan { rounds: 2, run_work: 200_000_000, most_walks: 8_000 };
 const SHORT_SEEDS: std::ops::RangeInclusive<u64> = 1..=1;
 const LONG_SEEDS: std::ops::RangeInclusive<u64> = 1..=12;
 

@@ -118,7 +118,8 @@ pub fn order(comparer: &mut Comparer, random: &mut Random, plan: &Plan) {
         let room = some_room(random, needed);
         let _ = comparer.tables(&file, room);
 
-        let node = |random: &mut Random| if random.once_in(5) { random.pick(&nodes(&net)) } else { random.below(net.n) as u8 };
+        let node =
+            |random: &mut Random| if random.once_in(5) { random.pick(&nodes(&net)) } else { random.below(net.n) as u8 };
         let (source, destination) = (node(random), node(random));
         let (failure, failed) = some_failure(random, &net, source);
         let (tables_room, trail_room) = (some_room(random, needed), some_room(random, net.trail_room()));

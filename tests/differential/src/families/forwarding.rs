@@ -6,7 +6,8 @@ use crate::entries::{RunAsk, StepAsk};
 use crate::make::{careless_set, some_set};
 use crate::model::file::file_of;
 use crate::model::forward::Stand;
-use crate::model::samples::{full_four, ring, set, triangle};
+use crate::model::report::LONGEST_REPORT;
+use crate::model::samples::{full_four, graph, ring, set, triangle};
 use crate::model::{Network, MOST_NODES};
 use crate::random::Random;
 
@@ -72,8 +73,7 @@ fn walk(comparer: &mut Comparer, file: &[u8], tables: &[u8], ask: RunAsk, most: 
 
 /// The small examples, then random sets of every size.
 fn sets(random: &mut Random, rounds: usize) -> Vec<Vec<u8>> {
-    let mut files =
-        vec![set(&triangle(), &[1, 2, 3]), set(&ring(), &[1, 2, 3, 4]), set(&full_four(), &[1, 1, 2, 2])];
+    let mut files = vec![set(&triangle(), &[1, 2, 3]), set(&ring(), &[1, 2, 3, 4]), set(&full_four(), &[1, 1, 2, 2])];
     for round in 0..rounds {
         let n = if round % 6 == 5 { random.between(9, MOST_NODES) } else { random.between(3, 8) };
         files.push(file_of(&some_set(random, n)));
@@ -90,6 +90,24 @@ pub fn runs(comparer: &mut Comparer, random: &mut Random, plan: &Plan) {
 pub fn walks(comparer: &mut Comparer, random: &mut Random, plan: &Plan) {
     for file in sets(random, 12 * plan.rounds) {
         every_walk(comparer, random, &file, plan.most_walks);
+    }
+}
+
+/// Rings with one heavy link: a packet goes all the way around to find the last link down, and all the way back. Its run has
+/// 2n - 3 hops, the most there are.
+pub fn longest_trails(comparer: &mut Comparer, random: &mut Random, plan: &Plan) {
+    for n in 3..=MOST_NODES {
+        let mut links: Vec<(usize, usize, u16)> = (1..n).map(|node| (node - 1, node, 1)).collect();
+        links.insert(1, (0, n - 1, 40));
+        let graph = graph(n, 40, &links);
+        let file = comparer.build(&file_of(&graph), n as u8, 9_192).expect("a ring has a set of n topologies");
+        let failed = graph.link_between(n - 2, n - 1).expect("the ring has this link") as u16;
+        let ask = RunAsk { source: 0, destination: n as u8 - 1, failure: 1, failed };
+        comparer.run(&file, ask, graph.tables_length() + n * n * n, 2 * n - 2);
+        let sound = comparer.sound(&file).expect("the builder makes sound sets");
+        walk(comparer, &file, &sound.1, ask, 2 * n);
+        every_run(comparer, random, &file, plan.run_work / 8);
+        comparer.report(&file, LONGEST_REPORT);
     }
 }
 

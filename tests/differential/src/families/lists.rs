@@ -33,7 +33,8 @@ pub fn round_trips(comparer: &mut Comparer, random: &mut Random, plan: &Plan) {
 
 /// One thing changed in the counts or lists.
 fn damage(random: &mut Random, lists: &mut Lists) {
-    let node = |random: &mut Random, n: u8| if random.once_in(4) { random.byte() } else { random.below(n as usize + 1) as u8 };
+    let node =
+        |random: &mut Random, n: u8| if random.once_in(4) { random.byte() } else { random.below(n as usize + 1) as u8 };
     let n = lists.n;
     let weight = random.pick(&[0, 1, lists.wmax, lists.wmax.wrapping_add(1), 256, 65_535]);
     match random.below(12) {

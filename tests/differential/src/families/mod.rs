@@ -19,8 +19,8 @@ use crate::random::Random;
 pub struct Plan {
     /// Random inputs per family are this many times a family's own number.
     pub rounds: usize,
-    /// Work for the runs of one set. Every run makes its own tables, so a run counts (k + 1) × n × n × n. Where all runs of a
-    /// set are within this, all are tried; otherwise as many as are within it, drawn by chance.
+    /// Work for the runs of one set. Every run makes its own tables, so a run counts (k + 1) × n × n × n. Where all runs
+    /// of a set are within this, all are tried; otherwise as many as are within it, drawn by chance.
     pub run_work: usize,
     /// Packets of one set that are walked by repeated steps; all of them where there are no more.
     pub most_walks: usize,
@@ -45,6 +45,7 @@ pub const FAMILIES: &[Family] = &[
     Family { name: "header counts", compare: damage::header_counts },
     Family { name: "several damages", compare: damage::several },
     Family { name: "runs, single failures", compare: forwarding::runs },
+    Family { name: "longest trails", compare: forwarding::longest_trails },
     Family { name: "repeated steps", compare: forwarding::walks },
     Family { name: "damaged tables", compare: forwarding::damaged_tables },
     Family { name: "arguments out of range", compare: arguments::out_of_range },

@@ -141,7 +141,10 @@ pub struct ListRooms {
     pub rows: usize,
 }
 
-/// What the lists are to hold by the counts: a graph alone has no homes and no rows.
+/// What the lists are to hold by the counts.
+///
+/// Reading: a graph alone has no homes and no rows, so the reader asks for no room there and the writer for no entries. The
+/// backup weights lie by topology, then link, as in the file.
 pub fn lists_needed(n: usize, m: usize, k: usize) -> ListRooms {
     ListRooms { a: m, b: m, weights: m, homes: if k > 0 { n } else { 0 }, rows: k * m }
 }

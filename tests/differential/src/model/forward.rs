@@ -118,6 +118,10 @@ pub fn forwarded(net: &Network, tables: &[u8], packet: Packet, failure: Failure)
 }
 
 /// One step by lent tables: 1 to 6, 13, 11, 12, 14, 15.
+///
+/// Reading: the tables' room is judged even where the packet is already there and no entry is looked up, since 01 asks for
+/// what a buffer is to hold and not for what is used of it. In the same way 12 holds where the failed node is also the
+/// destination, and the run asks for 2n - 2 bytes of trail however short the trail is.
 pub fn step(file: &[u8], tables: &[u8], packet: Packet, kind: u8, number: u16) -> Result<Step, Refusal> {
     let net = set_of(file)?;
     step_in(&net, tables, packet, kind, number)

@@ -5,7 +5,10 @@ use super::forward::{forwarded, to_the_end, Failure, Packet, Stand};
 use super::rules::sound_set;
 use super::{Network, Refusal};
 
-/// The room that the C entry asks for, whatever the set's size. This number is the header's, not 01's.
+/// The room that the C entry asks for, whatever the set's size.
+///
+/// Reading: 01 names no room for a report, and by its letter a buffer that holds this report would do ("exactly where a lent
+/// buffer is under what it is to hold"). The header asks for the longest report; the model follows the header here.
 pub const LONGEST_REPORT: usize = 22_875;
 
 const FIRST_LINE: &str = "node via dest kind topology next hops extra\n";
