@@ -1,0 +1,99 @@
+//! Lent room at every size around what is to be held.
+
+use super::Plan;
+use crate::compare::Comparer;
+use crate::entries::{RunAsk, StepAsk};
+use crate::make::{ringed_graph, some_links, some_set};
+use crate::model::builder::build;
+use crate::model::file::{file_of, lists_needed, ListRooms, Lists};
+use crate::model::report::LONGEST_REPORT;
+use crate::model::samples::{full_four, ring, set, triangle};
+use crate::model::{Network, MOST_NODES};
+use crate::random::Random;
+
+/// Sizes around a bound, and none at all.
+fn around(needed: usize) -> Vec<usize> {
+    let mut sizes = vec![0, 1, needed / 2];
+    sizes.extend(needed.saturating_sub(4)..=needed + 4);
+    sizes
+}
+
+pub fn short_rooms(comparer: &mut Comparer, random: &mut Random, plan: &Plan) {
+    for file in [set(&triangle(), &[1, 2, 3]), set(&ring(), &[1, 2, 3, 4]), set(&full_four(), &[1, 1, 2, 2])] {
+        set_rooms(comparer, random, &file);
+    }
+    for graph in [triangle(), ring(), full_four()] {
+        graph_rooms(comparer, &graph);
+    }
+    for round in 0..10 * plan.rounds {
+        let n = if round % 5 == 4 { random.between(9, MOST_NODES) } else { random.between(3, 8) };
+        let file = file_of(&some_set(random, n));
+        set_rooms(comparer, random, &file);
+        let m = some_links(random, n);
+        let graph = ringed_graph(random, n, m);
+        graph_rooms(comparer, &graph);
+    }
+}
+
+/// The rooms of every entry that takes a set.
+fn set_rooms(comparer: &mut Comparer, random: &mut Random, file: &[u8]) {
+    let Ok(sound) = comparer.sound(file) else {
+        return;
+    };
+    let (net, tables) = (&sound.0, &sound.1);
+    let (needed, trail) = (net.tables_length(), net.trail_room());
+    for room in around(needed) {
+        let _ = comparer.tables(file, room);
+        let mut lent = tables.clone();
+        lent.resize(room, 0);
+        let (place, destination) = (random.below(net.n) as u8, random.below(net.n) as u8);
+        let failed = random.below(net.m) as u16;
+        // A packet already there asks for the tables' room as well: 14 comes before what the step does.
+        for destination in [destination, place] {
+            let ask = StepAsk { place, destination, topology: 0, failure: 1, failed };
+            let _ = comparer.step(file, &lent, ask);
+        }
+        for trail_room in [trail - 1, trail, trail + 1] {
+            let ask = RunAsk { source: place, destination, failure: 1, failed };
+            comparer.run(file, ask, room, trail_room);
+        }
+    }
+    for trail_room in around(trail) {
+        // Even a trail of one node asks for 2n - 2.
+        for destination in [0, net.n as u8 - 1] {
+            let ask = RunAsk { source: 0, destination, failure: 0, failed: 0 };
+            comparer.run(file, ask, needed, trail_room);
+        }
+    }
+    for room in around(LONGEST_REPORT) {
+        comparer.report(file, room);
+    }
+    list_rooms(comparer, file, net);
+}
+
+/// The rooms of the builder, of the reader and of the writer for a graph.
+fn graph_rooms(comparer: &mut Comparer, graph: &Network) {
+    let file = file_of(graph);
+    if let Ok(built) = build(&file, 32, usize::MAX) {
+        for room in around(built.len()) {
+            let _ = comparer.build(&file, 32, room);
+        }
+    }
+    list_rooms(comparer, &file, graph);
+}
+
+/// Each list of the reader around its bound while the others have enough, and the writer's room.
+fn list_rooms(comparer: &mut Comparer, file: &[u8], net: &Network) {
+    let exact = lists_needed(net.n, net.m, net.k);
+    for list in 0..5 {
+        let bound = [exact.a, exact.b, exact.weights, exact.homes, exact.rows][list];
+        for room in around(bound) {
+            let mut rooms: ListRooms = exact;
+            *[&mut rooms.a, &mut rooms.b, &mut rooms.weights, &mut rooms.homes, &mut rooms.rows][list] = room;
+            let _ = comparer.read(file, &rooms);
+        }
+    }
+    for room in around(file.len()) {
+        let _ = comparer.write(&Lists::of(net), room);
+    }
+}
