@@ -2,10 +2,10 @@
 // `tables` are the file's own.
 use forwarding::hop::link_between;
 use forwarding::hop::take;
-use order::most_hops;
-use order::times;
 use forwarding::travel::travel;
 use housefile::byte;
+use order::most_hops;
+use order::times;
 use rules::Failure;
 use rules::Kind;
 use rules::Network;
