@@ -141,4 +141,8 @@ says-report answer old bytes e = it e refl
 pub says-refusal : (answer : LengthAnswer) (old new : List ℕ) (number place r : ℕ) → answer ≡ long.Refused number place → Wrote old 0 (refusalLine number place) 73 r new → Says answer old r new
 says-refusal answer old new number place r e w = line number place e w
 
+-- the whole result, and every byte of the text
+pub one-print : (s old new new′ : List ℕ) (r r′ : ℕ) → Printed s old r new → Printed s old r′ new′ → (r ≡ r′) × (new ≡ new′)
+one-print s old new new′ r r′ p q = (p .long ∙ sym (q .long), p .is ∙ sym (q .is))
+
 pub ruleset answers = (made-ready, reported, made-refused, refusal-of, printed-of, says-report, says-refusal)

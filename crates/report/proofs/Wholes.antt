@@ -2,7 +2,6 @@
 use mathlib.Core.Path.{_≡_, sym, ap, subst, _∙_}
 use mathlib.Core.List.{List, [], _∷_, _++_, append-assoc}
 use Prim.Native.Nat.{ℕ, _+_, _-_, _*_, _≤_}
-use native.Mathlib.Nat.{mul-le-mul}
 use native.Mathlib.Numerals.{add-one}
 use native.Mathlib.Omega.{arith}
 use lib.Dec.{eqb}
@@ -111,9 +110,6 @@ all-done s tables net u old new start r R w a b =
 
 -- ---- the whole text
 
-pub few-pairs : (n : ℕ) → 3 ≤ n → n ≤ 32 → n * (n - 1) ≤ 992
-few-pairs n l h = omega (arith, mul-le-mul {n₁ = n} {m₁ = n - 1} {n₂ = 32} {m₂ = 31} h (omega arith))
-
 pub last-of : (old mid new : List ℕ) (at p r n x : ℕ) → x ≡ n * (n - 1)
     → Wrote old at ((100 ∷ 101 ∷ 116 ∷ 101 ∷ 99 ∷ 116 ∷ 105 ∷ 111 ∷ 110 ∷ 115 ∷ 32 ∷ []) ++ decimal x) 36 p mid → Wrote mid p (10 ∷ []) 1 r new
     → Wrote old at (lastOf n) 37 r new
@@ -132,4 +128,4 @@ whole-of s tables net old o₁ o₂ new p q r R a b c =
     wrote-then old o₁ new 0 p r 44 152613 152657 headerLine (detectionLines (setOf s) ++ lastLine (setOf s)) a
     (wrote-then o₁ o₂ new p q r 152576 37 152613 (detectionLines (setOf s)) (lastLine (setOf s)) b d (omega arith)) (omega arith)
 
-pub ruleset wholes = (head-of, change-of, tail-of, line-of, own-line, other-line, node-none, node-more, node-done, all-none, all-more, all-done, few-pairs, last-of, whole-of)
+pub ruleset wholes = (head-of, change-of, tail-of, line-of, own-line, other-line, node-none, node-more, node-done, all-none, all-more, all-done, last-of, whole-of)

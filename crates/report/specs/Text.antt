@@ -10,7 +10,7 @@ use Rattle.rules.specs.Report.{decimal, space}
 unfoldable pub written : List ℕ → ℕ → List ℕ → List ℕ
 written text at bytes = sets text at bytes
 
--- the bytes stand in the text, and r is the place after them; they are at most so many
+-- the bytes stand in the text, and r is the place after them. They are at most so many, twenty for any number, so that no place wraps
 pub record Wrote (old : List ℕ) (at : ℕ) (bytes : List ℕ) (most r : ℕ) (new : List ℕ) : Type 0 where
   pub is : new ≡ written old at bytes
   pub on : r ≡ at + length bytes

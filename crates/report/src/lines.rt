@@ -7,6 +7,7 @@ use crate::text::labelled;
 use crate::text::letter;
 use crate::text::number;
 use crate::text::put;
+use order::times;
 use rules::Kind;
 use rules::Network;
 ghost use mathlib.Core.Path.{_≡_};
@@ -137,7 +138,7 @@ fn detections(n: u8) -> usize
     ensures { λ r. ⌜ r ≡ n * (n - 1) ⌝ }
 {
     let n = n as usize;
-    n * (n - 1)
+    times(n, n - 1)
 }
 
 // The last line: how many detections there are.

@@ -1,15 +1,12 @@
-use Rattle.report.proofs.Wholes.{wholes}
-use Rattle.rules.specs.File.{setOf}
-use Rattle.report.specs.Lines.{nodeLines}
-use Rattle.rules.specs.Basics.{flat}
-use borrow.Author.Needs.{needs}
 use Prim.Native.Nat.{_*_, _-_, _≤_}
+use Rattle.report.specs.Lines.{nodeLines}
 use Rattle.report.specs.Text.{Wrote}
+use Rattle.rules.specs.Basics.{flat}
+use Rattle.rules.specs.File.{setOf}
+use borrow.Author.Needs.{needs}
+use Rattle.report.proofs.Wholes.{wholes}
 use Rattle.report.proofs.lines.all_lines.Statement.{statement}
 use Rattle.report.proofs.lines.all_lines.Tie as tie
-use Rattle.report.proofs.lines.all_lines.Reads as reads
-use Rattle.report.proofs.lines.all_lines.Lts as lts
-use Rattle.report.proofs.lines.node_lines.Reads as node-lines-reads
 
 abbrev Inv-loop : tie.InvT-loop
 Inv-loop file net tables text₀ start n at₀ u₀ text at u = (u ≤ net .n) × Wrote text₀ start (flat (nodeLines (setOf file)) u) (4768 * u) at text
@@ -17,31 +14,24 @@ Inv-loop file net tables text₀ start n at₀ u₀ text at u = (u ≤ net .n) �
 abbrev μ-loop : tie.MeasureT-loop
 μ-loop file net tables text₀ start n at₀ u₀ text at u = net .n - u
 
--- src/lines.rt:117:5
 loop-holds : tie.Need-loop-holds Inv-loop μ-loop
 loop-holds c = (search needs, search wholes)
 
--- src/lines.rt:118:9
 node-lines-requires : tie.Need-node-lines-requires Inv-loop μ-loop
 node-lines-requires c κs = search needs
 
--- src/lines.rt:119:9
 add-u : tie.Need-add-u Inv-loop μ-loop
 add-u c = search needs
 
--- src/lines.rt:117:5
 loop-less : tie.Need-loop-less Inv-loop μ-loop
 loop-less c = search needs
 
--- src/lines.rt:117:5
 loop-again : tie.Need-loop-again Inv-loop μ-loop
 loop-again c = (search needs, search wholes)
 
--- src/lines.rt:109:1
 same-length : tie.Need-same-length Inv-loop μ-loop
 same-length c = search needs
 
--- src/lines.rt:109:1
 returns : tie.Need-returns Inv-loop μ-loop
 returns c = search wholes
 

@@ -1,23 +1,15 @@
-use Rattle.rules.specs.Building.{fits}
-use native.Mathlib.Omega.{arith}
-use Rattle.report.proofs.Wholes.{wholes, few-pairs}
 use borrow.Author.Needs.{needs}
 use Rattle.report.proofs.lines.detections.Statement.{statement}
 use Rattle.report.proofs.lines.detections.Tie as tie
-use Rattle.report.proofs.lines.detections.Reads as reads
-use Rattle.report.proofs.lines.detections.Lts as lts
 
--- src/lines.rt:139:10
-sub-result : tie.Need-sub-result
-sub-result c = search needs
+sub-times : tie.Need-sub-times
+sub-times c = search needs
 
--- src/lines.rt:139:5
-mul-result : tie.Need-mul-result
-mul-result c = record { fits = omega (arith, few-pairs (c .args .n) (c .pre .0) (c .pre .1)) }
+times-requires : tie.Need-times-requires
+times-requires c κs = search needs
 
--- src/lines.rt:134:1
 returns : tie.Need-returns
-returns c = search wholes
+returns c = search needs
 
 pub detections-spec : {M : Type 1} → statement M
-detections-spec = tie.close (tie.spec sub-result mul-result returns)
+detections-spec = tie.close (tie.spec sub-times times-requires returns)

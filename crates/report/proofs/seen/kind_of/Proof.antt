@@ -1,31 +1,23 @@
-use Rattle.report.proofs.Seens.{seens}
 use borrow.Author.Needs.{needs}
+use Rattle.report.proofs.Seens.{seens}
 use Rattle.report.proofs.seen.kind_of.Statement.{statement}
 use Rattle.report.proofs.seen.kind_of.Tie as tie
-use Rattle.report.proofs.seen.kind_of.Reads as reads
-use Rattle.report.proofs.seen.kind_of.Lts as lts
 
--- src/seen.rt:45:31
 enum-told : tie.Need-enum-told
 enum-told c = search needs
 
--- src/seen.rt:46:24
 enum-known-s : tie.Need-enum-known-s
 enum-known-s c = search needs
 
--- src/seen.rt:47:29
 enum-told-2 : tie.Need-enum-told-2
 enum-told-2 c = search needs
 
--- src/seen.rt:41:1
 returns : tie.Need-returns
 returns c = search seens
 
--- src/seen.rt:41:1
 returns-2 : tie.Need-returns-2
 returns-2 c = search seens
 
--- src/seen.rt:41:1
 returns-3 : tie.Need-returns-3
 returns-3 c = search seens
 

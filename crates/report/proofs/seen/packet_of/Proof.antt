@@ -1,31 +1,23 @@
-use Rattle.report.proofs.Seens.{seens}
 use borrow.Author.Needs.{needs}
+use Rattle.report.proofs.Seens.{seens}
 use Rattle.report.proofs.seen.packet_of.Statement.{statement}
 use Rattle.report.proofs.seen.packet_of.Tie as tie
-use Rattle.report.proofs.seen.packet_of.Reads as reads
-use Rattle.report.proofs.seen.packet_of.Lts as lts
 
--- src/seen.rt:56:25
 enum-known-s : tie.Need-enum-known-s
 enum-known-s c = search needs
 
--- src/seen.rt:57:21
 enum-known-s-2 : tie.Need-enum-known-s-2
 enum-known-s-2 c = search needs
 
--- src/seen.rt:58:23
 enum-known-s-3 : tie.Need-enum-known-s-3
 enum-known-s-3 c = search needs
 
--- src/seen.rt:52:1
 returns : tie.Need-returns
 returns c = search seens
 
--- src/seen.rt:52:1
 returns-2 : tie.Need-returns-2
 returns-2 c = search seens
 
--- src/seen.rt:52:1
 returns-3 : tie.Need-returns-3
 returns-3 c = search seens
 

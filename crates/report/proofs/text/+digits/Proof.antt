@@ -20,7 +20,6 @@ digits-at t = and 1 digits-kinds.ps (is 1 digits-kinds.ps μ-digits t) digits.Pr
 abbrev digits-below : ℕ → In 1 digits-kinds.ps
 digits-below t = and 1 digits-kinds.ps (falls 1 digits-kinds.ps _<_ μ-digits t) digits.Pre
 
--- src/text.rt:53:30
 digits-digit-requires : (t : ℕ) → digits-lts.Need-digit-requires (
   digit-reads.Asked,
   digit-reads.Learnt,
@@ -31,7 +30,6 @@ digits-digit-requires : (t : ℕ) → digits-lts.Need-digit-requires (
 ) (digits-at t) digits.Post
 digits-digit-requires t c κs = search needs
 
--- src/text.rt:53:9
 digits-put-requires : (t : ℕ) → digits-lts.Need-put-requires (
   digit-reads.Asked,
   digit-reads.Learnt,
@@ -42,7 +40,6 @@ digits-put-requires : (t : ℕ) → digits-lts.Need-put-requires (
 ) (digits-at t) digits.Post
 digits-put-requires t c κs = search needs
 
--- src/text.rt:53:9
 digits-same-length : (t : ℕ) → digits-lts.Need-same-length (
   digit-reads.Asked,
   digit-reads.Learnt,
@@ -53,7 +50,6 @@ digits-same-length : (t : ℕ) → digits-lts.Need-same-length (
 ) (digits-at t) digits.Post
 digits-same-length t c = search needs
 
--- src/text.rt:53:9
 digits-returns : (t : ℕ) → digits-lts.Need-returns (
   digit-reads.Asked,
   digit-reads.Learnt,
@@ -64,7 +60,6 @@ digits-returns : (t : ℕ) → digits-lts.Need-returns (
 ) (digits-at t) digits.Post
 digits-returns t c = search texts
 
--- src/text.rt:56:30
 digits-digit-requires-2 : (t : ℕ) → digits-lts.Need-digit-requires-2 (
   digit-reads.Asked,
   digit-reads.Learnt,
@@ -75,7 +70,6 @@ digits-digit-requires-2 : (t : ℕ) → digits-lts.Need-digit-requires-2 (
 ) (digits-at t) digits.Post
 digits-digit-requires-2 t c κs = search needs
 
--- src/text.rt:56:9
 digits-put-requires-2 : (t : ℕ) → digits-lts.Need-put-requires-2 (
   digit-reads.Asked,
   digit-reads.Learnt,
@@ -86,7 +80,6 @@ digits-put-requires-2 : (t : ℕ) → digits-lts.Need-put-requires-2 (
 ) (digits-at t) digits.Post
 digits-put-requires-2 t c κs = search needs
 
--- src/text.rt:56:9
 digits-same-length-2 : (t : ℕ) → digits-lts.Need-same-length-2 (
   digit-reads.Asked,
   digit-reads.Learnt,
@@ -97,7 +90,6 @@ digits-same-length-2 : (t : ℕ) → digits-lts.Need-same-length-2 (
 ) (digits-at t) digits.Post
 digits-same-length-2 t c = search needs
 
--- src/text.rt:56:9
 digits-returns-2 : (t : ℕ) → digits-lts.Need-returns-2 (
   digit-reads.Asked,
   digit-reads.Learnt,
@@ -108,7 +100,6 @@ digits-returns-2 : (t : ℕ) → digits-lts.Need-returns-2 (
 ) (digits-at t) digits.Post
 digits-returns-2 t c = search texts
 
--- src/text.rt:58:41
 digits-sub-digits : (t : ℕ) → digits-lts.Need-sub-digits (
   digit-reads.Asked,
   digit-reads.Learnt,
@@ -119,7 +110,6 @@ digits-sub-digits : (t : ℕ) → digits-lts.Need-sub-digits (
 ) (digits-at t) digits.Post
 digits-sub-digits t c = search needs
 
--- src/text.rt:58:9
 digits-digits-requires : (t : ℕ) → digits-lts.Need-digits-requires (
   digit-reads.Asked,
   digit-reads.Learnt,
@@ -130,7 +120,6 @@ digits-digits-requires : (t : ℕ) → digits-lts.Need-digits-requires (
 ) (digits-at t) digits.Post
 digits-digits-requires t c κs = search needs
 
--- src/text.rt:59:21
 digits-digit-requires-3 : (t : ℕ) → digits-lts.Need-digit-requires-3 (
   digit-reads.Asked,
   digit-reads.Learnt,
@@ -141,7 +130,6 @@ digits-digit-requires-3 : (t : ℕ) → digits-lts.Need-digit-requires-3 (
 ) (digits-at t) digits.Post
 digits-digit-requires-3 t c κs = search needs
 
--- src/text.rt:59:5
 digits-put-requires-3 : (t : ℕ) → digits-lts.Need-put-requires-3 (
   digit-reads.Asked,
   digit-reads.Learnt,
@@ -152,7 +140,6 @@ digits-put-requires-3 : (t : ℕ) → digits-lts.Need-put-requires-3 (
 ) (digits-at t) digits.Post
 digits-put-requires-3 t c κs = search needs
 
--- src/text.rt:48:1
 digits-same-length-3 : (t : ℕ) → digits-lts.Need-same-length-3 (
   digit-reads.Asked,
   digit-reads.Learnt,
@@ -163,7 +150,6 @@ digits-same-length-3 : (t : ℕ) → digits-lts.Need-same-length-3 (
 ) (digits-at t) digits.Post
 digits-same-length-3 t c = search needs
 
--- src/text.rt:48:1
 digits-returns-3 : (t : ℕ) → digits-lts.Need-returns-3 (
   digit-reads.Asked,
   digit-reads.Learnt,

@@ -1,39 +1,29 @@
-use Rattle.report.proofs.Texts.{texts}
 use borrow.Author.Needs.{needs}
+use Rattle.report.proofs.Texts.{texts}
 use Rattle.report.proofs.text.letter.Statement.{statement}
 use Rattle.report.proofs.text.letter.Tie as tie
-use Rattle.report.proofs.text.letter.Reads as reads
-use Rattle.report.proofs.text.letter.Lts as lts
 
--- src/text.rt:77:28
 enum-told : tie.Need-enum-told
 enum-told c = search needs
 
--- src/text.rt:78:20
 enum-told-2 : tie.Need-enum-told-2
 enum-told-2 c = search needs
 
--- src/text.rt:79:20
 enum-told-3 : tie.Need-enum-told-3
 enum-told-3 c = search needs
 
--- src/text.rt:80:20
 enum-told-4 : tie.Need-enum-told-4
 enum-told-4 c = search needs
 
--- src/text.rt:73:1
 returns : tie.Need-returns
 returns c = search texts
 
--- src/text.rt:73:1
 returns-2 : tie.Need-returns-2
 returns-2 c = search texts
 
--- src/text.rt:73:1
 returns-3 : tie.Need-returns-3
 returns-3 c = search texts
 
--- src/text.rt:73:1
 returns-4 : tie.Need-returns-4
 returns-4 c = search texts
 
