@@ -4,7 +4,7 @@
  * What is lent as `const` is read only. Buffers that one call is given must not overlap, except that two `const` ones may.
  *
  * The answer is one 64-bit number. Refused: bit 63 is set, bits 32 to 39 hold the refusal's number and bits 0 to 31 its place,
- * as document 01 numbers them, and every lent byte is as it came. Accepted: bit 63 is clear and the rest is the value below.
+ * as document 01 numbers them, all other bits are 0, and every lent byte is as it came. Accepted: bit 63 is clear and the rest is the value below.
  */
 #ifndef BURNISHPEG_H
 #define BURNISHPEG_H
@@ -51,8 +51,8 @@ uint64_t burnishpeg_step(const uint8_t *file, size_t file_len, const uint8_t *ta
 uint64_t burnishpeg_run(const uint8_t *file, size_t file_len, uint8_t source, uint8_t destination, uint8_t failure,
                         uint16_t failed, uint8_t *tables, size_t tables_len, uint8_t *trail, size_t trail_len);
 
-/* The report's text. Value: the length written at the front of `text`. Refusals 1 to 6, 13, 7 and 8; 14 where text_len is under
- * BURNISHPEG_LONGEST_REPORT. */
+/* The report's text. Value: the length written at the front of `text`. Refusals 1 to 6, 13, 7 and 8, 14 where text_len is under the
+ * text's length. BURNISHPEG_LONGEST_REPORT bytes are enough for every set. */
 uint64_t burnishpeg_report(const uint8_t *file, size_t file_len, uint8_t *text, size_t text_len);
 
 /* A file into lists: link ends, link weights, homes, backup weights. Value: n in bits 0 to 7, m in 8 to 23, k in 24 to 31, wmax

@@ -2,40 +2,28 @@ use Rattle.capi.proofs.Laws.{entries}
 use borrow.Author.Needs.{needs}
 use Rattle.capi.proofs.burnishpeg_read.Statement.{statement}
 use Rattle.capi.proofs.burnishpeg_read.Tie as tie
-use Rattle.capi.proofs.burnishpeg_read.Reads as reads
-use Rattle.capi.proofs.burnishpeg_read.Lts as lts
-use Rattle.capi.proofs.read_word.Reads as read-word-reads
-use Rattle.reader.proofs.read.Reads as read-reads
 
--- src/lib.rt:231:15
 read-requires : tie.Need-read-requires
 read-requires c κs = search needs
 
--- src/lib.rt:231:5
 read-word-requires : tie.Need-read-word-requires
 read-word-requires c κs = search needs
 
--- src/lib.rt:220:1
 same-length : tie.Need-same-length
 same-length c = search needs
 
--- src/lib.rt:220:1
 same-length-2 : tie.Need-same-length-2
 same-length-2 c = search needs
 
--- src/lib.rt:220:1
 same-length-3 : tie.Need-same-length-3
 same-length-3 c = search needs
 
--- src/lib.rt:220:1
 same-length-4 : tie.Need-same-length-4
 same-length-4 c = search needs
 
--- src/lib.rt:220:1
 same-length-5 : tie.Need-same-length-5
 same-length-5 c = search needs
 
--- src/lib.rt:220:1
 returns : tie.Need-returns
 returns c = search entries
 

@@ -2,30 +2,22 @@ use Rattle.capi.proofs.Laws.{words}
 use borrow.Author.Needs.{needs}
 use Rattle.capi.proofs.failure_of.Statement.{statement}
 use Rattle.capi.proofs.failure_of.Tie as tie
-use Rattle.capi.proofs.failure_of.Reads as reads
-use Rattle.capi.proofs.failure_of.Lts as lts
 
--- src/lib.rt:146:9
 returns : tie.Need-returns
 returns c = search words
 
--- src/lib.rt:149:9
 returns-2 : tie.Need-returns-2
 returns-2 c = search words
 
--- src/lib.rt:152:9
 returns-3 : tie.Need-returns-3
 returns-3 c = search words
 
--- src/lib.rt:155:30
 cast-t4 : tie.Need-cast-t4
 cast-t4 c = search needs
 
--- src/lib.rt:155:9
 returns-4 : tie.Need-returns-4
 returns-4 c = search words
 
--- src/lib.rt:142:1
 returns-5 : tie.Need-returns-5
 returns-5 c = search words
 

@@ -2,50 +2,37 @@ use Rattle.capi.proofs.Laws.{words}
 use borrow.Author.Needs.{needs}
 use Rattle.capi.proofs.header_word.Statement.{statement}
 use Rattle.capi.proofs.header_word.Tie as tie
-use Rattle.capi.proofs.header_word.Reads as reads
-use Rattle.capi.proofs.header_word.Lts as lts
 
--- src/lib.rt:57:6
 cast-result : tie.Need-cast-result
 cast-result c = search needs
 
--- src/lib.rt:57:28
 cast-result-2 : tie.Need-cast-result-2
 cast-result-2 c = search needs
 
--- src/lib.rt:57:52
 cast-result-3 : tie.Need-cast-result-3
 cast-result-3 c = search needs
 
--- src/lib.rt:57:73
 cast-result-4 : tie.Need-cast-result-4
 cast-result-4 c = search needs
 
--- src/lib.rt:57:66
 mul-result : tie.Need-mul-result
 mul-result c = search needs
 
--- src/lib.rt:57:51
 add-result : tie.Need-add-result
 add-result c = search needs
 
--- src/lib.rt:57:42
 mul-result-2 : tie.Need-mul-result-2
 mul-result-2 c = search needs
 
--- src/lib.rt:57:27
 add-result-2 : tie.Need-add-result-2
 add-result-2 c = search needs
 
--- src/lib.rt:57:20
 mul-result-3 : tie.Need-mul-result-3
 mul-result-3 c = search needs
 
--- src/lib.rt:57:5
 add-result-3 : tie.Need-add-result-3
 add-result-3 c = search needs
 
--- src/lib.rt:54:1
 returns : tie.Need-returns
 returns c = search words
 

@@ -2,52 +2,37 @@ use Rattle.capi.proofs.Laws.{words}
 use borrow.Author.Needs.{needs}
 use Rattle.capi.proofs.journey_word.Statement.{statement}
 use Rattle.capi.proofs.journey_word.Tie as tie
-use Rattle.capi.proofs.journey_word.Reads as reads
-use Rattle.capi.proofs.journey_word.Lts as lts
-use Rattle.capi.proofs.letter_of.Reads as letter-of-reads
-use Rattle.capi.proofs.outcome_of.Reads as outcome-of-reads
 
--- src/lib.rt:128:5
 outcome-of-requires : tie.Need-outcome-of-requires
 outcome-of-requires c κs = search needs
 
--- src/lib.rt:128:29
 cast-result : tie.Need-cast-result
 cast-result c = search needs
 
--- src/lib.rt:128:54
 cast-result-2 : tie.Need-cast-result-2
 cast-result-2 c = search needs
 
--- src/lib.rt:128:81
 letter-of-requires : tie.Need-letter-of-requires
 letter-of-requires c κs = search needs
 
--- src/lib.rt:128:75
 mul-result : tie.Need-mul-result
 mul-result c = search needs
 
--- src/lib.rt:128:53
 add-result : tie.Need-add-result
 add-result c = search needs
 
--- src/lib.rt:128:46
 mul-result-2 : tie.Need-mul-result-2
 mul-result-2 c = search needs
 
--- src/lib.rt:128:28
 add-result-2 : tie.Need-add-result-2
 add-result-2 c = search needs
 
--- src/lib.rt:128:21
 mul-result-3 : tie.Need-mul-result-3
 mul-result-3 c = search needs
 
--- src/lib.rt:128:5
 add-result-3 : tie.Need-add-result-3
 add-result-3 c = search needs
 
--- src/lib.rt:123:1
 returns : tie.Need-returns
 returns c = search words
 

@@ -2,30 +2,22 @@ use Rattle.capi.proofs.Laws.{words}
 use borrow.Author.Needs.{needs}
 use Rattle.capi.proofs.outcome_of.Statement.{statement}
 use Rattle.capi.proofs.outcome_of.Tie as tie
-use Rattle.capi.proofs.outcome_of.Reads as reads
-use Rattle.capi.proofs.outcome_of.Lts as lts
 
--- src/lib.rt:84:30
 enum-told : tie.Need-enum-told
 enum-told c = search needs
 
--- src/lib.rt:85:31
 enum-told-2 : tie.Need-enum-told-2
 enum-told-2 c = search needs
 
--- src/lib.rt:86:29
 enum-told-3 : tie.Need-enum-told-3
 enum-told-3 c = search needs
 
--- src/lib.rt:80:1
 returns : tie.Need-returns
 returns c = (search words, search needs)
 
--- src/lib.rt:80:1
 returns-2 : tie.Need-returns-2
 returns-2 c = (search words, search needs)
 
--- src/lib.rt:80:1
 returns-3 : tie.Need-returns-3
 returns-3 c = (search words, search needs)
 

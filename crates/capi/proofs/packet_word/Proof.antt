@@ -2,38 +2,28 @@ use Rattle.capi.proofs.Laws.{words}
 use borrow.Author.Needs.{needs}
 use Rattle.capi.proofs.packet_word.Statement.{statement}
 use Rattle.capi.proofs.packet_word.Tie as tie
-use Rattle.capi.proofs.packet_word.Reads as reads
-use Rattle.capi.proofs.packet_word.Lts as lts
 
--- src/lib.rt:93:6
 cast-result : tie.Need-cast-result
 cast-result c = search needs
 
--- src/lib.rt:93:32
 cast-result-2 : tie.Need-cast-result-2
 cast-result-2 c = search needs
 
--- src/lib.rt:93:63
 cast-result-3 : tie.Need-cast-result-3
 cast-result-3 c = search needs
 
--- src/lib.rt:93:56
 mul-result : tie.Need-mul-result
 mul-result c = search needs
 
--- src/lib.rt:93:31
 add-result : tie.Need-add-result
 add-result c = search needs
 
--- src/lib.rt:93:24
 mul-result-2 : tie.Need-mul-result-2
 mul-result-2 c = search needs
 
--- src/lib.rt:93:5
 add-result-2 : tie.Need-add-result-2
 add-result-2 c = search needs
 
--- src/lib.rt:90:1
 returns : tie.Need-returns
 returns c = (search words, search needs)
 

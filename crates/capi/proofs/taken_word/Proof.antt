@@ -2,48 +2,34 @@ use Rattle.capi.proofs.Laws.{words}
 use borrow.Author.Needs.{needs}
 use Rattle.capi.proofs.taken_word.Statement.{statement}
 use Rattle.capi.proofs.taken_word.Tie as tie
-use Rattle.capi.proofs.taken_word.Reads as reads
-use Rattle.capi.proofs.taken_word.Lts as lts
-use Rattle.capi.proofs.letter_of.Reads as letter-of-reads
-use Rattle.capi.proofs.stands.Reads as stands-reads
 
--- src/lib.rt:108:25
 enum-known-s : tie.Need-enum-known-s
 enum-known-s c = search needs
 
--- src/lib.rt:108:31
 stands-requires : tie.Need-stands-requires
 stands-requires c κs = search needs
 
--- src/lib.rt:109:21
 enum-known-s-2 : tie.Need-enum-known-s-2
 enum-known-s-2 c = search needs
 
--- src/lib.rt:109:43
 letter-of-requires : tie.Need-letter-of-requires
 letter-of-requires c κs = search needs
 
--- src/lib.rt:109:33
 stands-requires-2 : tie.Need-stands-requires-2
 stands-requires-2 c κs = (search needs, search needs)
 
--- src/lib.rt:110:23
 enum-known-s-3 : tie.Need-enum-known-s-3
 enum-known-s-3 c = search needs
 
--- src/lib.rt:110:29
 stands-requires-3 : tie.Need-stands-requires-3
 stands-requires-3 c κs = search needs
 
--- src/lib.rt:104:1
 returns : tie.Need-returns
 returns c = search words
 
--- src/lib.rt:104:1
 returns-2 : tie.Need-returns-2
 returns-2 c = search words
 
--- src/lib.rt:104:1
 returns-3 : tie.Need-returns-3
 returns-3 c = search words
 

@@ -1,5 +1,4 @@
 use borrow.Author.Needs.{needs}
-use Rattle.rules.specs.Building.{fits}
 use Rattle.housefile.proofs.Places.{places}
 use Rattle.housefile.proofs.row_place.Statement.{statement}
 use Rattle.housefile.proofs.row_place.Tie as tie

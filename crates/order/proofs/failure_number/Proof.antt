@@ -2,38 +2,28 @@ use Rattle.order.proofs.Laws.{orders}
 use borrow.Author.Needs.{needs}
 use Rattle.order.proofs.failure_number.Statement.{statement}
 use Rattle.order.proofs.failure_number.Tie as tie
-use Rattle.order.proofs.failure_number.Reads as reads
-use Rattle.order.proofs.failure_number.Lts as lts
 
--- src/order.rt:55:29
 enum-told : tie.Need-enum-told
 enum-told c = search needs
 
--- src/order.rt:56:23
 enum-known-failure : tie.Need-enum-known-failure
 enum-known-failure c = search needs
 
--- src/order.rt:63:23
 enum-known-failure-2 : tie.Need-enum-known-failure-2
 enum-known-failure-2 c = search needs
 
--- src/order.rt:51:1
 returns : tie.Need-returns
 returns c = search orders
 
--- src/order.rt:51:1
 returns-2 : tie.Need-returns-2
 returns-2 c = search orders
 
--- src/order.rt:51:1
 returns-3 : tie.Need-returns-3
 returns-3 c = search orders
 
--- src/order.rt:51:1
 returns-4 : tie.Need-returns-4
 returns-4 c = search orders
 
--- src/order.rt:51:1
 returns-5 : tie.Need-returns-5
 returns-5 c = search orders
 

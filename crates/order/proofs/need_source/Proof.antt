@@ -2,34 +2,25 @@ use Rattle.order.proofs.Laws.{orders}
 use borrow.Author.Needs.{needs}
 use Rattle.order.proofs.need_source.Statement.{statement}
 use Rattle.order.proofs.need_source.Tie as tie
-use Rattle.order.proofs.need_source.Reads as reads
-use Rattle.order.proofs.need_source.Lts as lts
 
--- src/order.rt:100:29
 enum-told : tie.Need-enum-told
 enum-told c = search needs
 
--- src/order.rt:101:29
 enum-told-2 : tie.Need-enum-told-2
 enum-told-2 c = search needs
 
--- src/order.rt:102:23
 enum-known-failure : tie.Need-enum-known-failure
 enum-known-failure c = search needs
 
--- src/order.rt:96:1
 returns : tie.Need-returns
 returns c = search orders
 
--- src/order.rt:96:1
 returns-2 : tie.Need-returns-2
 returns-2 c = search orders
 
--- src/order.rt:96:1
 returns-3 : tie.Need-returns-3
 returns-3 c = search orders
 
--- src/order.rt:96:1
 returns-4 : tie.Need-returns-4
 returns-4 c = search orders
 

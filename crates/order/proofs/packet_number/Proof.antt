@@ -3,30 +3,22 @@ use Rattle.order.proofs.Laws.{orders}
 use borrow.Author.Needs.{needs}
 use Rattle.order.proofs.packet_number.Statement.{statement}
 use Rattle.order.proofs.packet_number.Tie as tie
-use Rattle.order.proofs.packet_number.Reads as reads
-use Rattle.order.proofs.packet_number.Lts as lts
-use Rattle.order.proofs.failure_number.Reads as failure-number-reads
 
--- src/order.rt:78:9
 returns : tie.Need-returns
 unfolding packetNumber
 returns c = search orders depth 14
 
--- src/order.rt:81:9
 returns-2 : tie.Need-returns-2
 unfolding packetNumber
 returns-2 c = search orders depth 14
 
--- src/order.rt:84:9
 returns-3 : tie.Need-returns-3
 unfolding packetNumber
 returns-3 c = search orders depth 14
 
--- src/order.rt:86:5
 failure-number-requires : tie.Need-failure-number-requires
 failure-number-requires c κs = search needs
 
--- src/order.rt:74:1
 returns-4 : tie.Need-returns-4
 unfolding packetNumber
 returns-4 c = search orders depth 14

@@ -2,22 +2,16 @@ use Rattle.order.proofs.Laws.{orders}
 use borrow.Author.Needs.{needs}
 use Rattle.order.proofs.trail_room.Statement.{statement}
 use Rattle.order.proofs.trail_room.Tie as tie
-use Rattle.order.proofs.trail_room.Reads as reads
-use Rattle.order.proofs.trail_room.Lts as lts
 
--- src/lib.rt:144:22
 cast-twice : tie.Need-cast-twice
 cast-twice c = search needs
 
--- src/lib.rt:144:17
 mul-twice : tie.Need-mul-twice
 mul-twice c = search needs
 
--- src/lib.rt:146:9
 returns : tie.Need-returns
 returns c = search orders
 
--- src/lib.rt:141:1
 returns-2 : tie.Need-returns-2
 returns-2 c = search orders
 

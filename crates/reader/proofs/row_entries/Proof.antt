@@ -1,5 +1,4 @@
 use borrow.Author.Needs.{needs}
-use Rattle.rules.specs.Building.{fits}
 use Rattle.housefile.proofs.Places.{product-fits}
 use Rattle.reader.proofs.row_entries.Statement.{statement}
 use Rattle.reader.proofs.row_entries.Tie as tie

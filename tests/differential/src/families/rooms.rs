@@ -6,7 +6,7 @@ use crate::entries::{RunAsk, StepAsk};
 use crate::make::{ringed_graph, some_links, some_set};
 use crate::model::builder::build;
 use crate::model::file::{file_of, lists_needed, ListRooms, Lists};
-use crate::model::report::LONGEST_REPORT;
+use crate::model::report::{report, LONGEST_REPORT};
 use crate::model::samples::{full_four, ring, set, triangle};
 use crate::model::{Network, MOST_NODES};
 use crate::random::Random;
@@ -65,7 +65,8 @@ fn set_rooms(comparer: &mut Comparer, random: &mut Random, file: &[u8]) {
             comparer.run(file, ask, needed, trail_room);
         }
     }
-    for room in around(LONGEST_REPORT) {
+    let text = report(file, LONGEST_REPORT).map_or(LONGEST_REPORT, |text| text.len());
+    for room in around(text) {
         comparer.report(file, room);
     }
     list_rooms(comparer, file, net);

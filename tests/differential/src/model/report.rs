@@ -5,22 +5,17 @@ use super::forward::{forwarded, to_the_end, Failure, Packet, Stand};
 use super::rules::sound_set;
 use super::{Network, Refusal};
 
-/// The room that the C entry asks for, whatever the set's size.
-///
-/// Reading: 01 names no room for a report, and by its letter a buffer that holds this report would do ("exactly where a lent
-/// buffer is under what it is to hold"). The header asks for the longest report; the model follows the header here.
+/// Room that is enough for every report.
 pub const LONGEST_REPORT: usize = 22_875;
 
 const FIRST_LINE: &str = "node via dest kind topology next hops extra\n";
 
 /// The report's text: 1 to 6, 13, 7 and 8, 14.
 ///
-/// Reading: every line, the last too, ends with a line feed.
+/// Reading: every line, the last too, ends with a line feed. Room is too short where it is under this report's length
+/// ("exactly where a lent list or buffer is under what it is to hold").
 pub fn report(file: &[u8], room: usize) -> Result<String, Refusal> {
     let net = sound_set(file)?;
-    if room < LONGEST_REPORT {
-        return Err((14, 0));
-    }
     let tables = tables_of(&net);
     let mut text = String::from(FIRST_LINE);
     for node in 0..net.n {
@@ -29,6 +24,9 @@ pub fn report(file: &[u8], room: usize) -> Result<String, Refusal> {
         }
     }
     text += &format!("detections {}\n", net.n * (net.n - 1));
+    if room < text.len() {
+        return Err((14, 0));
+    }
     Ok(text)
 }
 

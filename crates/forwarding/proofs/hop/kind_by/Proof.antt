@@ -1,14 +1,10 @@
 use Rattle.forwarding.proofs.Hops.{hop}
 use Rattle.forwarding.proofs.hop.kind_by.Statement.{statement}
 use Rattle.forwarding.proofs.hop.kind_by.Tie as tie
-use Rattle.forwarding.proofs.hop.kind_by.Reads as reads
-use Rattle.forwarding.proofs.hop.kind_by.Lts as lts
 
--- src/hop.rt:161:9
 returns : tie.Need-returns
 returns c = search hop
 
--- src/hop.rt:157:1
 returns-2 : tie.Need-returns-2
 returns-2 c = search hop
 

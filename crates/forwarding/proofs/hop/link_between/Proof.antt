@@ -3,9 +3,6 @@ use Prim.Native.Nat.{_-_}
 use Rattle.forwarding.proofs.Graph.{Sought, graph}
 use Rattle.forwarding.proofs.hop.link_between.Statement.{statement}
 use Rattle.forwarding.proofs.hop.link_between.Tie as tie
-use Rattle.forwarding.proofs.hop.link_between.Reads as reads
-use Rattle.forwarding.proofs.hop.link_between.Lts as lts
-use Rattle.forwarding.proofs.hop.joins.Reads as joins-reads
 
 abbrev Inv-loop : tie.InvT-loop
 Inv-loop file u w m l₀ l = Sought file u w m l
@@ -13,35 +10,27 @@ Inv-loop file u w m l₀ l = Sought file u w m l
 abbrev μ-loop : tie.MeasureT-loop
 μ-loop file u w m l₀ l = m - l
 
--- src/hop.rt:56:5
 loop-holds : tie.Need-loop-holds Inv-loop μ-loop
 loop-holds c = search graph
 
--- src/hop.rt:57:33
 cast-joins : tie.Need-cast-joins Inv-loop μ-loop
 cast-joins c = search needs
 
--- src/hop.rt:57:13
 joins-requires : tie.Need-joins-requires Inv-loop μ-loop
 joins-requires c κs = search needs
 
--- src/hop.rt:59:13
 returns : tie.Need-returns Inv-loop μ-loop
 returns c = search graph
 
--- src/hop.rt:61:9
 add-l : tie.Need-add-l Inv-loop μ-loop
 add-l c = search needs
 
--- src/hop.rt:56:5
 loop-less : tie.Need-loop-less Inv-loop μ-loop
 loop-less c = search needs
 
--- src/hop.rt:56:5
 loop-again : tie.Need-loop-again Inv-loop μ-loop
 loop-again c = search graph
 
--- src/hop.rt:50:1
 returns-2 : tie.Need-returns-2 Inv-loop μ-loop
 returns-2 c = search graph
 

@@ -1,14 +1,10 @@
 use Rattle.forwarding.proofs.Graph.{graph}
 use Rattle.forwarding.proofs.hop.neither.Statement.{statement}
 use Rattle.forwarding.proofs.hop.neither.Tie as tie
-use Rattle.forwarding.proofs.hop.neither.Reads as reads
-use Rattle.forwarding.proofs.hop.neither.Lts as lts
 
--- src/hop.rt:105:9
 returns : tie.Need-returns
 returns c = search graph
 
--- src/hop.rt:101:1
 returns-2 : tie.Need-returns-2
 returns-2 c = search graph
 

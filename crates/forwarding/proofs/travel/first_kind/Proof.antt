@@ -2,38 +2,28 @@ use Rattle.forwarding.proofs.Trips.{travelling}
 use borrow.Author.Needs.{needs}
 use Rattle.forwarding.proofs.travel.first_kind.Statement.{statement}
 use Rattle.forwarding.proofs.travel.first_kind.Tie as tie
-use Rattle.forwarding.proofs.travel.first_kind.Reads as reads
-use Rattle.forwarding.proofs.travel.first_kind.Lts as lts
 
--- src/travel.rt:22:28
 enum-told : tie.Need-enum-told
 enum-told c = search needs
 
--- src/travel.rt:23:20
 enum-told-2 : tie.Need-enum-told-2
 enum-told-2 c = search needs
 
--- src/travel.rt:24:20
 enum-told-3 : tie.Need-enum-told-3
 enum-told-3 c = search needs
 
--- src/travel.rt:25:20
 enum-told-4 : tie.Need-enum-told-4
 enum-told-4 c = search needs
 
--- src/travel.rt:18:1
 returns : tie.Need-returns
 returns c = search travelling
 
--- src/travel.rt:18:1
 returns-2 : tie.Need-returns-2
 returns-2 c = search travelling
 
--- src/travel.rt:18:1
 returns-3 : tie.Need-returns-3
 returns-3 c = search travelling
 
--- src/travel.rt:18:1
 returns-4 : tie.Need-returns-4
 returns-4 c = search travelling
 

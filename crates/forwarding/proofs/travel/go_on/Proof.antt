@@ -4,13 +4,6 @@ use Prim.Native.Nat.{_-_}
 use Rattle.forwarding.proofs.Trips.{Travelling, travelling}
 use Rattle.forwarding.proofs.travel.go_on.Statement.{statement}
 use Rattle.forwarding.proofs.travel.go_on.Tie as tie
-use Rattle.forwarding.proofs.travel.go_on.Reads as reads
-use Rattle.forwarding.proofs.travel.go_on.Lts as lts
-use Rattle.forwarding.proofs.hop.take.Reads as take-reads
-use Rattle.forwarding.proofs.travel.ended.Reads as ended-reads
-use Rattle.forwarding.proofs.travel.first_kind.Reads as first-kind-reads
-use Rattle.forwarding.proofs.travel.one_more.Reads as one-more-reads
-use Rattle.forwarding.proofs.travel.visit.Reads as visit-reads
 
 abbrev Inv-loop : tie.InvT-loop
 Inv-loop file net tables failure most trail₀ p₀ hops₀ kind₀ trail p hops kind = Travelling file tables failure p₀ most trail₀ p hops kind trail
@@ -18,79 +11,60 @@ Inv-loop file net tables failure most trail₀ p₀ hops₀ kind₀ trail p hops
 abbrev μ-loop : tie.MeasureT-loop
 μ-loop file net tables failure most trail₀ p₀ hops₀ kind₀ trail p hops kind = most - hops
 
--- src/travel.rt:75:5
 loop-holds : tie.Need-loop-holds Inv-loop μ-loop
 loop-holds c = search travelling
 
--- src/travel.rt:76:13
 take-requires : tie.Need-take-requires Inv-loop μ-loop
 take-requires c κs = search needs
 
--- src/travel.rt:78:29
 enum-known-s : tie.Need-enum-known-s Inv-loop μ-loop
 enum-known-s c = search needs
 
--- src/travel.rt:79:17
 ended-requires : tie.Need-ended-requires Inv-loop μ-loop
 ended-requires c κs = search needs
 
--- src/travel.rt:79:17
 same-length : tie.Need-same-length Inv-loop μ-loop
 same-length c = search needs
 
--- src/travel.rt:79:17
 returns : tie.Need-returns Inv-loop μ-loop
 returns c = search travelling
 
--- src/travel.rt:81:27
 enum-known-s-2 : tie.Need-enum-known-s-2 Inv-loop μ-loop
 enum-known-s-2 c = search needs
 
--- src/travel.rt:82:17
 ended-requires-2 : tie.Need-ended-requires-2 Inv-loop μ-loop
 ended-requires-2 c κs = search needs
 
--- src/travel.rt:82:17
 same-length-2 : tie.Need-same-length-2 Inv-loop μ-loop
 same-length-2 c = search needs
 
--- src/travel.rt:82:17
 returns-2 : tie.Need-returns-2 Inv-loop μ-loop
 returns-2 c = search travelling
 
--- src/travel.rt:84:25
 enum-known-s-3 : tie.Need-enum-known-s-3 Inv-loop μ-loop
 enum-known-s-3 c = search needs
 
--- src/travel.rt:86:21
 ended-requires-3 : tie.Need-ended-requires-3 Inv-loop μ-loop
 ended-requires-3 c κs = search needs
 
--- src/travel.rt:86:21
 same-length-3 : tie.Need-same-length-3 Inv-loop μ-loop
 same-length-3 c = search needs
 
--- src/travel.rt:86:21
 returns-3 : tie.Need-returns-3 Inv-loop μ-loop
 returns-3 c = search travelling
 
--- src/travel.rt:88:17
 one-more-requires : tie.Need-one-more-requires Inv-loop μ-loop
 one-more-requires c κs = search needs
 
--- src/travel.rt:89:17
 visit-requires : tie.Need-visit-requires Inv-loop μ-loop
 visit-requires c κs = search needs
 
--- src/travel.rt:90:17
 first-kind-requires : tie.Need-first-kind-requires Inv-loop μ-loop
 first-kind-requires c κs = search needs
 
--- src/travel.rt:75:5
 loop-less : tie.Need-loop-less Inv-loop μ-loop
 loop-less c = search travelling
 
--- src/travel.rt:75:5
 loop-again : tie.Need-loop-again Inv-loop μ-loop
 loop-again c = search travelling
 

@@ -2,22 +2,16 @@ use Rattle.forwarding.proofs.Trips.{travelling}
 use borrow.Author.Needs.{needs}
 use Rattle.forwarding.proofs.travel.visit.Statement.{statement}
 use Rattle.forwarding.proofs.travel.visit.Tie as tie
-use Rattle.forwarding.proofs.travel.visit.Reads as reads
-use Rattle.forwarding.proofs.travel.visit.Lts as lts
 
--- src/travel.rt:35:9
 slice-write-trail : tie.Need-slice-write-trail
 slice-write-trail c = search needs
 
--- src/travel.rt:30:1
 same-length : tie.Need-same-length
 same-length c = search needs
 
--- src/travel.rt:30:1
 returns : tie.Need-returns
 returns c = search needs
 
--- src/travel.rt:30:1
 returns-2 : tie.Need-returns-2
 returns-2 c = search travelling
 
