@@ -1,4 +1,5 @@
-// From a set's lists to its tables, three ways: the proved library, a hand-written Dijkstra, and Boost Graph. The sets are a ring with
+// The tables of a set, three ways: the proved library from the file's bytes, judged and checked; a hand-written Dijkstra and Boost Graph from
+// lists that are at hand. The sets are a ring with
 // chords, node v at home in topology v mod k + 1, backup rows equal to topology 0's weights on normal links. All three must agree.
 #include <algorithm>
 #include <cstdint>
@@ -8,20 +9,32 @@
 #include <functional>
 #include <utility>
 #include <vector>
+#include "../include/burnishpeg.h"
 #include <boost/graph/adjacency_list.hpp>
 #include <boost/graph/dijkstra_shortest_paths.hpp>
 
 using std::size_t;
 using std::vector;
 
-extern "C" void burnishpeg_fill_tables(uint8_t n, uint16_t m, uint8_t k, uint16_t wmax, const uint8_t *a, size_t a_long, const uint8_t *b, size_t b_long,
-    const uint16_t *weights, size_t weights_long, const uint8_t *homes, size_t homes_long, const uint16_t *rows, size_t rows_long, uint8_t *out, size_t out_long);
-
 struct Set {
     int n, m, k, wmax;
     vector<uint8_t> a, b, homes;
     vector<uint16_t> weights, rows;
+    vector<uint8_t> file;
 };
+
+// The set's file, as document 01 lays it out.
+static void encode(Set &s) {
+    auto byte = [&](int x) { s.file.push_back(x); };
+    auto two = [&](int x) { byte(x / 256), byte(x % 256); };
+    byte('N'), byte('W'), byte(s.n), two(s.m), byte(s.k), two(s.wmax);
+    for (int l = 0; l < s.m; l++) byte('L'), byte('K'), byte(s.a[l]), byte(s.b[l]), two(s.weights[l]);
+    for (int v = 0; v < s.n; v++) byte('H'), byte('M'), byte(v), byte(s.homes[v]);
+    for (int i = 0; i < s.k; i++) {
+        byte('B'), byte('W'), byte(i + 1);
+        for (int l = 0; l < s.m; l++) two(s.rows[i * s.m + l]);
+    }
+}
 
 // ---- the sets
 
@@ -60,7 +73,7 @@ static bool accepted(const Set &s) {
 }
 
 static Set make(int n, int m, int k) {
-    Set s{n, m, k, 1000, {}, {}, {}, {}, {}};
+    Set s{n, m, k, 1000, {}, {}, {}, {}, {}, {}};
     vector<std::pair<int, int>> links;
     for (int step : {1, 2, 5, 11})
         for (int v = 0; v < n && (int)links.size() < m; v++) {
@@ -203,8 +216,10 @@ static void by_boost(const Set &s, uint8_t *out) {
 }
 
 static void by_proof(const Set &s, uint8_t *out) {
-    burnishpeg_fill_tables(s.n, s.m, s.k, s.wmax, s.a.data(), s.a.size(), s.b.data(), s.b.size(), s.weights.data(), s.weights.size(), s.homes.data(), s.homes.size(),
-        s.rows.data(), s.rows.size(), out, (size_t)(s.k + 2) * s.n * s.n);
+    if (BURNISHPEG_REFUSED(burnishpeg_tables(s.file.data(), s.file.size(), out, (size_t)(s.k + 2) * s.n * s.n))) {
+        std::printf("n = %d: refused\n", s.n);
+        std::exit(1);
+    }
 }
 
 // ---- the least processor time of one call, in microseconds; the three take turns, so that what else the machine does falls on all alike
@@ -220,6 +235,7 @@ int main() {
     const int sizes[3][3] = {{32, 128, 32}, {16, 40, 4}, {8, 14, 3}};
     for (auto &z : sizes) {
         Set s = make(z[0], z[1], z[2]);
+        encode(s);
         vector<uint8_t> ours((s.k + 2) * s.n * s.n, 7), hand(ours), boost(ours);
         by_proof(s, ours.data());
         by_hand(s, hand.data());
