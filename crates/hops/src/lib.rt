@@ -7,7 +7,8 @@ ghost use Prim.Native.Nat.{ℕ, _+_, _*_, _^_, _≤_, _<_, min};
 ghost use lib.ListN.{length, getD, set, replicate};
 ghost use Rattle.rules.specs.Basics.{upTo, flat};
 ghost use Rattle.rules.specs.Distance.{far};
-ghost use Rattle.routes.specs.Lanes.{column, LowRow, LowCols, Wired, netOf};
+ghost use Rattle.routes.specs.Lanes.{column, LowRow, LowRows};
+ghost use Rattle.routes.specs.Passes.{netOf, Wired};
 ghost use Rattle.hops.specs.Ties.{orWord, tieOf, bitFor, firstOf, marked, mark, markBoth, markLink, marks, WideRows, Marked, MarkSpot, MarkPair, Clear, Worded, hopOf, hopAt, hopsOf, tieTable};
 ghost use Rattle.hops.specs.Alternates.{noted, notedLink, outletsBy, eligible, lesserOf, leastOf, nearBit, nearWord, alternateBy, Homed, RowBy, RowOf, RowAt, RowsTo};
 
@@ -56,7 +57,7 @@ fn mark_row(w: &mut [u32; 32], p: &[u32; 32], q: &[u32; 32], c: u32, bit: u32)
 
 fn mark_one(w: &mut [[u32; 32]], d: &[[u32; 32]], x: u8, y: u8, c: u32)
     requires { ⌜ MarkSpot (now d) (now w) x y c ⌝ }
-    requires { ⌜ LowCols (now d) ⌝ }
+    requires { ⌜ LowRows (now d) ⌝ }
     requires { ⌜ WideRows (now w) ⌝ }
     ensures { λ _. ⌜ Marked (now (d .entry)) (now (w .entry)) (now (w .exit)) (mark x y c) ⌝ }
 {
@@ -71,7 +72,7 @@ fn mark_one(w: &mut [[u32; 32]], d: &[[u32; 32]], x: u8, y: u8, c: u32)
 // A link of cost c between x and y, both ways.
 fn mark_pair(w: &mut [[u32; 32]], d: &[[u32; 32]], x: u8, y: u8, c: u32)
     requires { ⌜ MarkPair (now d) (now w) x y c ⌝ }
-    requires { ⌜ LowCols (now d) ⌝ }
+    requires { ⌜ LowRows (now d) ⌝ }
     requires { ⌜ WideRows (now w) ⌝ }
     ensures { λ _. ⌜ Marked (now (d .entry)) (now (w .entry)) (now (w .exit)) (markBoth x y c) ⌝ }
 {
@@ -81,7 +82,7 @@ fn mark_pair(w: &mut [[u32; 32]], d: &[[u32; 32]], x: u8, y: u8, c: u32)
 
 fn mark_link(a: &[u8], b: &[u8], c: &[u32], l: usize, d: &[[u32; 32]], w: &mut [[u32; 32]])
     requires { ⌜ Wired (now a) (now b) (now c) (length (now d)) ⌝ }
-    requires { ⌜ LowCols (now d) ⌝ }
+    requires { ⌜ LowRows (now d) ⌝ }
     requires { ⌜ WideRows (now w) ⌝ }
     requires { ⌜ length (now w) ≡ length (now d) ⌝ }
     requires { ⌜ l < length (now a) ⌝ }
@@ -95,7 +96,7 @@ fn mark_link(a: &[u8], b: &[u8], c: &[u32], l: usize, d: &[[u32; 32]], w: &mut [
 
 fn mark_links(a: &[u8], b: &[u8], c: &[u32], d: &[[u32; 32]], w: &mut [[u32; 32]])
     requires { ⌜ Wired (now a) (now b) (now c) (length (now d)) ⌝ }
-    requires { ⌜ LowCols (now d) ⌝ }
+    requires { ⌜ LowRows (now d) ⌝ }
     requires { ⌜ WideRows (now w) ⌝ }
     requires { ⌜ length (now w) ≡ length (now d) ⌝ }
     ensures { λ _. ⌜ Marked (now (d .entry)) (now (w .entry)) (now (w .exit)) (marks (netOf (now (a .entry)) (now (b .entry)) (now (c .entry))) (length (now (a .entry)))) ⌝ }
@@ -127,7 +128,7 @@ fn clear(w: &mut [[u32; 32]])
 // Column t: the words of the neighbours that tie toward t.
 fn words(a: &[u8], b: &[u8], c: &[u32], d: &[[u32; 32]], w: &mut [[u32; 32]])
     requires { ⌜ Wired (now a) (now b) (now c) (length (now d)) ⌝ }
-    requires { ⌜ LowCols (now d) ⌝ }
+    requires { ⌜ LowRows (now d) ⌝ }
     requires { ⌜ length (now w) ≡ length (now d) ⌝ }
     ensures { λ _. ⌜ Worded (netOf (now (a .entry)) (now (b .entry)) (now (c .entry))) (now (d .entry)) (now (w .exit)) (length (now (d .entry))) ⌝ }
 {
@@ -195,7 +196,7 @@ pub fn hop_table(
     out: &mut [u8],
 )
     requires { ⌜ Wired (now a) (now b) (now c) (length (now d)) ⌝ }
-    requires { ⌜ LowCols (now d) ⌝ }
+    requires { ⌜ LowRows (now d) ⌝ }
     requires { ⌜ (length (now w) ≡ length (now d)) × (length (now out) ≡ length (now d) * length (now d)) ⌝ }
     ensures { λ _. ⌜ now (out .exit) ≡ tieTable (netOf (now (a .entry)) (now (b .entry)) (now (c .entry))) (now (d .entry)) (length (now (d .entry))) ⌝ }
 {
