@@ -4,8 +4,8 @@ use lib.ListN.{length}
 use mathlib.Core.Path.{_≡_}
 use Prim.Native.Nat.{_-_, _≤_}
 use Rattle.hops.specs.Alternates.{RowBy}
-use Rattle.hops.proofs.alternate_row.Statement.{statement}
-use Rattle.hops.proofs.alternate_row.Tie as tie
+use Rattle.hops.proofs.alternates.alternate_row.Statement.{statement}
+use Rattle.hops.proofs.alternates.alternate_row.Tie as tie
 
 abbrev Inv-loop : tie.InvT-loop
 Inv-loop near d r₀ v₀ r v = (v ≤ length d) × (length r ≡ 32) × RowBy near d r v

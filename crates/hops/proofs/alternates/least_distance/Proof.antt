@@ -4,8 +4,8 @@ use Rattle.hops.specs.Alternates.{leastOf}
 use Rattle.hops.proofs.Neighbours.{least-done, least-more, least-none}
 use mathlib.Core.Path.{_≡_}
 use Prim.Native.Nat.{_-_, _≤_}
-use Rattle.hops.proofs.least_distance.Statement.{statement}
-use Rattle.hops.proofs.least_distance.Tie as tie
+use Rattle.hops.proofs.alternates.least_distance.Statement.{statement}
+use Rattle.hops.proofs.alternates.least_distance.Tie as tie
 
 abbrev Inv-loop : tie.InvT-loop
 Inv-loop near d v best₀ w₀ best w = (w ≤ length d) × (best ≡ leastOf near d v w)

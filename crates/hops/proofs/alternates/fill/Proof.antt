@@ -4,8 +4,8 @@ use lib.ListN.{length}
 use mathlib.Core.Path.{_≡_}
 use Prim.Native.Nat.{_-_, _≤_}
 use Rattle.hops.specs.Alternates.{RowsTo}
-use Rattle.hops.proofs.alternates.Statement.{statement}
-use Rattle.hops.proofs.alternates.Tie as tie
+use Rattle.hops.proofs.alternates.fill.Statement.{statement}
+use Rattle.hops.proofs.alternates.fill.Tie as tie
 
 abbrev Inv-loop : tie.InvT-loop
 Inv-loop a b homes i d alts₀ u₀ alts u = (u ≤ length d) × (length alts ≡ length d) × RowsTo a b homes i d u alts₀ alts
@@ -34,8 +34,8 @@ same-length c = search needs
 returns : tie.Need-returns Inv-loop μ-loop
 returns c = search nodes-done
 
-pub alternates-spec : {M : Type 1} → statement M
-alternates-spec =
+pub fill-spec : {M : Type 1} → statement M
+fill-spec =
     tie.close
     (tie.spec
     Inv-loop

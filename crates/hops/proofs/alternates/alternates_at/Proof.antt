@@ -1,7 +1,7 @@
 use Rattle.hops.proofs.Neighbours.{row-at-home, row-elsewhere}
 use borrow.Author.Needs.{needs}
-use Rattle.hops.proofs.alternates_at.Statement.{statement}
-use Rattle.hops.proofs.alternates_at.Tie as tie
+use Rattle.hops.proofs.alternates.alternates_at.Statement.{statement}
+use Rattle.hops.proofs.alternates.alternates_at.Tie as tie
 
 end-requires : tie.Need-end-requires
 end-requires c κs = search needs

@@ -1,6 +1,6 @@
 use Rattle.hops.proofs.Neighbours.{lesser-new, lesser-none, lesser-old}
-use Rattle.hops.proofs.lesser_of.Statement.{statement}
-use Rattle.hops.proofs.lesser_of.Tie as tie
+use Rattle.hops.proofs.alternates.lesser_of.Statement.{statement}
+use Rattle.hops.proofs.alternates.lesser_of.Tie as tie
 
 returns : tie.Need-returns
 returns c = search lesser-new

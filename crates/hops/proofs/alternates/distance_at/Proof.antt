@@ -1,7 +1,7 @@
 use Rattle.hops.proofs.Neighbours.{entry-at}
 use borrow.Author.Needs.{needs}
-use Rattle.hops.proofs.distance_at.Statement.{statement}
-use Rattle.hops.proofs.distance_at.Tie as tie
+use Rattle.hops.proofs.alternates.distance_at.Statement.{statement}
+use Rattle.hops.proofs.alternates.distance_at.Tie as tie
 
 mul-lane : tie.Need-mul-lane
 mul-lane c = search needs

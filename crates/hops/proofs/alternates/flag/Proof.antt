@@ -1,6 +1,6 @@
 use Rattle.hops.proofs.Neighbours.{flag-no, flag-yes}
-use Rattle.hops.proofs.flag.Statement.{statement}
-use Rattle.hops.proofs.flag.Tie as tie
+use Rattle.hops.proofs.alternates.flag.Statement.{statement}
+use Rattle.hops.proofs.alternates.flag.Tie as tie
 
 returns : tie.Need-returns
 returns c = search flag-yes

@@ -1,7 +1,7 @@
 use Rattle.hops.proofs.Neighbours.{bit-here, bit-none, bit-past}
 use borrow.Author.Needs.{needs}
-use Rattle.hops.proofs.near_bit.Statement.{statement}
-use Rattle.hops.proofs.near_bit.Tie as tie
+use Rattle.hops.proofs.alternates.near_bit.Statement.{statement}
+use Rattle.hops.proofs.alternates.near_bit.Tie as tie
 
 cast-bit-of : tie.Need-cast-bit-of
 cast-bit-of c = search needs

@@ -1,7 +1,7 @@
 use Rattle.hops.proofs.Neighbours.{link-noted, link-same}
 use borrow.Author.Needs.{needs}
-use Rattle.hops.proofs.note_link.Statement.{statement}
-use Rattle.hops.proofs.note_link.Tie as tie
+use Rattle.hops.proofs.alternates.note_link.Statement.{statement}
+use Rattle.hops.proofs.alternates.note_link.Tie as tie
 
 returns : tie.Need-returns
 returns c = search link-same

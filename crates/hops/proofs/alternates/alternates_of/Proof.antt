@@ -1,7 +1,7 @@
 use Rattle.hops.proofs.Neighbours.{row-of}
 use borrow.Author.Needs.{needs}
-use Rattle.hops.proofs.alternates_of.Statement.{statement}
-use Rattle.hops.proofs.alternates_of.Tie as tie
+use Rattle.hops.proofs.alternates.alternates_of.Statement.{statement}
+use Rattle.hops.proofs.alternates.alternates_of.Tie as tie
 
 outlets-requires : tie.Need-outlets-requires
 outlets-requires c κs = search needs

@@ -4,8 +4,8 @@ use lib.ListN.{length}
 use Rattle.hops.proofs.Neighbours.{a-few, a-homed, b-few, b-homed, b-reads, outlets-done, outlets-more, outlets-none}
 use mathlib.Core.Path.{_≡_}
 use Prim.Native.Nat.{_-_, _≤_}
-use Rattle.hops.proofs.outlets.Statement.{statement}
-use Rattle.hops.proofs.outlets.Tie as tie
+use Rattle.hops.proofs.alternates.outlets.Statement.{statement}
+use Rattle.hops.proofs.alternates.outlets.Tie as tie
 
 abbrev Inv-loop : tie.InvT-loop
 Inv-loop a b homes u near₀ l₀ near l = (l ≤ length a) × (near ≡ outletsBy a b homes u l)

@@ -1,7 +1,7 @@
 use Rattle.hops.proofs.Neighbours.{no-alternate, some-alternate}
 use borrow.Author.Needs.{needs}
-use Rattle.hops.proofs.alternate.Statement.{statement}
-use Rattle.hops.proofs.alternate.Tie as tie
+use Rattle.hops.proofs.alternates.alternate.Statement.{statement}
+use Rattle.hops.proofs.alternates.alternate.Tie as tie
 
 element-copy-out-if1 : tie.Need-element-copy-out-if1
 element-copy-out-if1 c = search needs

@@ -1,7 +1,7 @@
 use Rattle.hops.proofs.Neighbours.{another, not-itself}
 use borrow.Author.Needs.{needs}
-use Rattle.hops.proofs.stands_in.Statement.{statement}
-use Rattle.hops.proofs.stands_in.Tie as tie
+use Rattle.hops.proofs.alternates.stands_in.Statement.{statement}
+use Rattle.hops.proofs.alternates.stands_in.Tie as tie
 
 returns : tie.Need-returns
 returns c = search not-itself

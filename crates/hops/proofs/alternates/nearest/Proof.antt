@@ -4,8 +4,8 @@ use Rattle.hops.specs.Alternates.{nearWord}
 use lib.ListN.{length}
 use mathlib.Core.Path.{_≡_}
 use Prim.Native.Nat.{_-_, _≤_}
-use Rattle.hops.proofs.nearest.Statement.{statement}
-use Rattle.hops.proofs.nearest.Tie as tie
+use Rattle.hops.proofs.alternates.nearest.Statement.{statement}
+use Rattle.hops.proofs.alternates.nearest.Tie as tie
 
 abbrev Inv-loop : tie.InvT-loop
 Inv-loop near d v best word₀ w₀ word w = (w ≤ length d) × (word ≡ nearWord near d v best w)

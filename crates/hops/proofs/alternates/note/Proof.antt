@@ -1,7 +1,7 @@
 use Rattle.hops.proofs.Neighbours.{note-is}
 use borrow.Author.Needs.{needs}
-use Rattle.hops.proofs.note.Statement.{statement}
-use Rattle.hops.proofs.note.Tie as tie
+use Rattle.hops.proofs.alternates.note.Statement.{statement}
+use Rattle.hops.proofs.alternates.note.Tie as tie
 
 element-copy-out-flag : tie.Need-element-copy-out-flag
 element-copy-out-flag c = search needs
