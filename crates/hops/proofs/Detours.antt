@@ -22,7 +22,7 @@ use Rattle.rules.proofs.Homes.{Outlet, home-low, home-isolated, away}
 use Rattle.rules.proofs.NextHops.{candidate-outlet, outlet-candidate, nearest-alternates}
 use Rattle.routes.specs.Lanes.{column}
 use Rattle.routes.specs.Costs.{Distances}
-use Rattle.routes.proofs.Sweeps.{same?}
+use Rattle.routes.proofs.Lanes.{same?}
 use Rattle.routes.proofs.Exact.{distance-entry}
 use Rattle.hops.specs.Ties.{firstOf}
 use Rattle.hops.specs.Alternates.{noted, notedLink, outletsBy, eligible, leastOf, nearBit, nearWord, alternateBy, alternateOf}

@@ -13,8 +13,8 @@ use lib.Bits.{bitOr, or-step}
 use lib.Count.{trailingZeros, under, trailing-le, trailing-of-zero}
 use borrow.Author.Tests.{eq-eqb, ne-eqb}
 use Rattle.rules.specs.Basics.{if_then_else_}
-use Rattle.routes.specs.Sweeps.{Net}
-use Rattle.routes.proofs.Sweeps.{same?}
+use Rattle.routes.specs.Passes.{Net}
+use Rattle.routes.proofs.Lanes.{same?}
 use Rattle.hops.specs.Ties.{bitFor, orWord, tieOf, mark, markBoth, markLink, marks, firstOf, hopOf, via, tieEnd, lowestEnd}
 
 or-half : (a b : ℕ) → bitOr a b / 2 ≡ bitOr (a / 2) (b / 2)

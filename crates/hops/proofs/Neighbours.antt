@@ -14,8 +14,7 @@ use Rattle.rules.specs.Basics.{if_then_else_, least}
 use Rattle.rules.specs.Distance.{far}
 use Rattle.rules.proofs.Choices.{if-yes, if-no}
 use Rattle.routes.specs.Lanes.{column}
-use Rattle.routes.proofs.Sweeps.{same?}
-use Rattle.routes.proofs.Lanes.{column-at}
+use Rattle.routes.proofs.Lanes.{same?, column-at}
 use Rattle.hops.specs.Ties.{orWord, bitFor, firstOf}
 use Rattle.hops.specs.Alternates.{noted, notedLink, outletsBy, eligible, lesserOf, leastOf, nearBit, nearWord, alternateBy, alternateOf, Homed, RowBy, RowOf, RowAt, RowsTo}
 

@@ -19,10 +19,10 @@ use Rattle.rules.proofs.Rows.{upTo-ext, flat-ext}
 use Rattle.rules.proofs.Links.{link-below, link-ends, hop-neighbours, usable-hop}
 use Rattle.rules.proofs.Reach.{below-far}
 use Rattle.rules.proofs.NextHops.{Next, next}
-use Rattle.routes.specs.Sweeps.{Net}
-use Rattle.routes.specs.Lanes.{column, netOf}
+use Rattle.routes.specs.Lanes.{column}
+use Rattle.routes.specs.Passes.{Net, netOf}
 use Rattle.routes.specs.Costs.{cost, Distances}
-use Rattle.routes.proofs.Sweeps.{Leads}
+use Rattle.routes.proofs.Passes.{Leads}
 use Rattle.routes.proofs.Lanes.{in-or-out}
 use Rattle.routes.proofs.Exact.{CostIs, unused, used, cost-is, hop-cost, cost-entry, distance-entry}
 use Rattle.hops.specs.Ties.{via, tieEnd, lowestEnd, tieHop, tieTable}

@@ -17,10 +17,9 @@ use borrow.Author.Tests.{eq-eqb, ne-eqb}
 use Rattle.rules.specs.Basics.{upTo, flat}
 use Rattle.rules.proofs.Choices.{if-yes, if-no}
 use Rattle.rules.proofs.Rows.{length-upTo, upTo-ext, flat-ext}
-use Rattle.routes.specs.Sweeps.{Net}
-use Rattle.routes.specs.Lanes.{column, Wired, netOf}
-use Rattle.routes.proofs.Sweeps.{same?}
-use Rattle.routes.proofs.Lanes.{column-at, column-long, column-set}
+use Rattle.routes.specs.Lanes.{column}
+use Rattle.routes.specs.Passes.{Net, netOf, Wired}
+use Rattle.routes.proofs.Lanes.{same?, column-at, column-long, column-set}
 use Rattle.routes.proofs.Filling.{fill-more, fill-done, rows-more, rows-done}
 use Rattle.hops.specs.Ties.{orWord, tieOf, bitFor, firstOf, markLane, marked, mark, markBoth, markLink, marks, WideRows, Marked, MarkSpot, MarkPair, Clear, Worded, hopOf, hopAt, hopsOf, tieHop, tieTable}
 use Rattle.hops.proofs.Lowest.{hop-is}

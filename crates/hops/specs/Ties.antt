@@ -8,7 +8,7 @@ use lib.Bits.{bitOr}
 use lib.Count.{trailingZeros}
 use Rattle.rules.specs.Basics.{if_then_else_, upTo, flat}
 use Rattle.rules.specs.Distance.{far}
-use Rattle.routes.specs.Sweeps.{Net}
+use Rattle.routes.specs.Passes.{Net}
 use Rattle.routes.specs.Lanes.{column}
 
 unfoldable pub orWord : ℕ → ℕ → ℕ

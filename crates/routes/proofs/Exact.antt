@@ -1,4 +1,4 @@
--- The swept distances are the published ones: the costs of an accepted set's links, and what n sweeps over them leave.
+-- The distances that the passes leave are the published ones, for the costs of an accepted set's links.
 use Prim.Native.Nat.{ℕ, zero, suc, _+_, _-_, _*_, _≤_, _<_}
 use native.Mathlib.Nat.{eq-or-lt-of-le, le-of-suc-le-suc}
 use native.Mathlib.Omega.{arith}
@@ -21,10 +21,11 @@ use Rattle.rules.proofs.Links.{Ends, joins-ends, ends-join, link-below, link-en
 use Rattle.rules.proofs.Distances.{distance-far}
 use Rattle.rules.proofs.Reach.{some-weight, distance-self, distance-over}
 use Rattle.rules.proofs.NextHops.{next}
-use Rattle.routes.specs.Sweeps.{Net, rounds, start}
-use Rattle.routes.specs.Lanes.{column, netOf, Wired, Settled}
+use Rattle.routes.specs.Lanes.{column, entry, LowRows}
+use Rattle.routes.specs.Passes.{Net, netOf, Wired, settled}
 use Rattle.routes.specs.Costs.{costBy, cost, Distances}
-use Rattle.routes.proofs.Sweeps.{rounds-length, start-length, Exact, rounds-reach}
+use Rattle.routes.proofs.Lanes.{column-at, column-long}
+use Rattle.routes.proofs.Passes.{Leads, Exact, Inside, Between, settled-between, settled-reach}
 
 -- ---- "at most one link per pair"
 
@@ -161,16 +162,19 @@ module _ (S : Set) (A : AcceptedSet S) (i : ℕ) (hi : i ≤ S .net .k) where
           c-low = λ l h. omega (arith, cost-entry l (omega (arith, long)), cost-low l (omega (arith, long)));
         }
 
+    inside : Inside G (S .net .n)
+    inside = let W = costs-wired in record { few = W .few; a-in = W .a-in; b-in = W .b-in }
+
+    link-node : (l u w : ℕ) → l < length (S .a) → Leads G l u w → u < S .net .n
+    link-node l u w h (inl e) = omega (arith, e .0, costs-wired .a-in l h)
+    link-node l u w h (inr e) = omega (arith, e .1, costs-wired .b-in l h)
+
     exact : (t : ℕ) → t < S .net .n → Exact G (S .net .n) t (λ u. distance S i u t)
     exact t lt =
-        let W = costs-wired in
         record {
-          a-in = W .a-in;
-          b-in = W .b-in;
           target = distance-self S A i t hi lt;
           low = λ u lu. distance-far S (A .rules) i hi u t lu;
-          forth = λ l h. let g : l < S .net .m = omega (arith, long) in omega (arith, cost-entry l g, over-link l (getD (S .a) l 0) (getD (S .b) l 0) t g (inl (refl, refl)) (W .a-in l h) lt);
-          back = λ l h. let g : l < S .net .m = omega (arith, long) in omega (arith, cost-entry l g, over-link l (getD (S .b) l 0) (getD (S .a) l 0) t g (inr (refl, refl)) (W .b-in l h) lt);
+          over = λ l u w h s. let g : l < S .net .m = omega (arith, long) in omega (arith, cost-entry l g, over-link l u w t g s (link-node l u w h s) lt);
           tight = λ u lu ne.
               let N = next S A i u t hi lu lt ne in
               let v = nextHop S i u t in
@@ -188,18 +192,27 @@ module _ (S : Set) (A : AcceptedSet S) (i : ℕ) (hi : i ≤ S .net .k) where
               };
         }
 
-    swept : (t : ℕ) → t < S .net .n → rounds G (S .net .n) (start (S .net .n) t) ≡ distances S i t
-    unfolding distance
-    swept t lt =
-        let ld : length (rounds G (S .net .n) (start (S .net .n) t)) ≡ S .net .n = rounds-length G (S .net .n) (start (S .net .n) t) ∙ start-length (S .net .n) t in
-        ext-getD 0 (rounds G (S .net .n) (start (S .net .n) t)) (distances S i t) (ld ∙ sym (distances-length S i t))
-        (λ u h.
-        let lu : u < S .net .n = omega (arith, ld) in
-        rounds-reach G (S .net .n) t (λ x. distance S i x t) (exact t lt) lt u lu ∙ in-range (distances S i t) u far 0 (omega (arith, distances-length S i t)))
+    between : Between G (S .net .n) inside (distance S i) exact (S .net .n) (settled G (S .net .n))
+    between = settled-between G (S .net .n) inside (distance S i) exact
 
-    pub settled-distances : (d : List (List ℕ)) → Settled G d (S .net .n) → Distances S i d
-    settled-distances d Q =
-        record { is = λ t lt. Q .is t (omega (arith, A .rules .limits .nodes .1)) ∙ swept t lt; long = Q .long }
+    pub settled-low : LowRows (settled G (S .net .n))
+    settled-low = between .low
+
+    pub settled-distances : (d : List (List ℕ)) → d ≡ settled G (S .net .n) → Distances S i d
+    unfolding distance entry
+    settled-distances d e =
+        record {
+          is = λ t lt.
+              ext-getD 0 (column t d) (distances S i t) (column-long t d ∙ ld ∙ sym (distances-length S i t))
+              (λ u h.
+              let lu : u < S .net .n = omega (arith, column-long t d, ld) in
+              column-at t u d ∙ ap (λ (x : List (List ℕ)). getD (getD x u []) t 0) e ∙ settled-reach G (S .net .n) inside (distance S i) exact u t lu lt
+              ∙ in-range (distances S i t) u far 0 (omega (arith, distances-length S i t)));
+          long = ld;
+        }
+      where
+        ld : length d ≡ S .net .n
+        ld = ap length e ∙ between .long
 
 -- an entry of the matrix is a distance
 pub distance-entry : (S : Set) (i : ℕ) (d : List (List ℕ)) → Distances S i d → (u t : ℕ) → u < S .net .n → t < S .net .n → getD (column t d) u 0 ≡ distance S i u t

@@ -1,4 +1,4 @@
--- The costs of a topology's links, and its distances by sweeps over the links, as the code runs.
-pub mod Sweeps
+-- The costs of a topology's links, and its distances by passes through the nodes, as the code runs.
 pub mod Lanes
+pub mod Passes
 pub mod Costs

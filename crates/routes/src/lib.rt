@@ -1,15 +1,13 @@
 // The weights and distances of one topology: the row in force, the cost of each link, and the distances of all nodes to all destinations.
-// It promises that they are those of the definitions. Distances are a matrix with a row for each node and a lane for each destination, so
-// that relaxing a link is one step over whole rows; sweeps over the links go on until one changes nothing.
+// It promises that they are those of the definitions. Distances are a matrix with a row for each node and a lane for each destination: what
+// a node gains by going through another is one step over whole rows, and once it was tried through every node, no path is left that is shorter.
 ghost use mathlib.Core.Path.{_≡_};
 ghost use Prim.Native.Nat.{ℕ, _+_, _*_, _≤_, _<_, min};
-ghost use mathlib.Core.List.{List, []};
-ghost use lib.ListN.{length, getD, set, replicate};
+ghost use lib.ListN.{length, getD};
 ghost use Rattle.rules.specs.Basics.{upTo};
-ghost use Rattle.rules.specs.Limits.{restrictedWeight};
 ghost use Rattle.rules.specs.Distance.{far};
-ghost use Rattle.routes.specs.Sweeps.{lower, both, sweep, rounds};
-ghost use Rattle.routes.specs.Lanes.{lanes, RowBecame, LowRow, Fell, Joined, Each, Cols, LowCols, Spot, Wired, netOf, unitRow, Begun, Settled};
+ghost use Rattle.routes.specs.Lanes.{lanes, LowRow, LowRows, unitRow, entry};
+ghost use Rattle.routes.specs.Passes.{netOf, Wired, direct, directLink, directLinks, Spot, lowerRow, through, pass, passes, settled};
 ghost use Rattle.routes.specs.Costs.{rowOf, HoldsRow, costOf, costAt, Links};
 
 // What stands for "no path", and for the cost of a link that is never used.
@@ -117,106 +115,7 @@ fn lesser(p: u32, q: u32) -> u32
     p
 }
 
-// Not 0 where q is less than p.
-fn fell(p: u32, q: u32) -> u32
-    requires { ⌜ (p < 2147483648) × (q < 2147483648) ⌝ }
-    ensures { λ s. ⌜ Fell p q s ⌝ }
-{
-    if (q as i32) < (p as i32) {
-        return 1;
-    }
-    0
-}
-
-fn join(p: u32, q: u32) -> u32
-    ensures { λ s. ⌜ Joined p q s ⌝ }
-{
-    p | q
-}
-
-// Row p lowered to c + row q, lane by lane. 0 where nothing changed.
-fn lower_row(p: &mut [u32; 32], q: &[u32; 32], c: u32) -> u32
-    requires { ⌜ LowRow (now p) ⌝ }
-    requires { ⌜ LowRow (now q) ⌝ }
-    requires { ⌜ c < far ⌝ }
-    ensures { λ s. ⌜ RowBecame (now (p .entry)) (now (p .exit)) (lanes c (now (q .entry)) 32 (now (p .entry))) s ⌝ }
-{
-    let mut changed: u32 = 0;
-    let mut t = 0;
-    while t < 32 {
-        let old = p[t];
-        let sum = c + q[t];
-        let new = lesser(old, sum);
-        let less = fell(old, sum);
-        changed = join(changed, less);
-        p[t] = new;
-        t += 1;
-    }
-    changed
-}
-
-// Row x lowered to c + row y.
-fn relax(d: &mut [[u32; 32]], x: usize, y: usize, c: u32) -> u32
-    requires { ⌜ Spot (now d) x y c ⌝ }
-    requires { ⌜ LowCols (now d) ⌝ }
-    ensures { λ s. ⌜ Cols (now (d .entry)) (now (d .exit)) (lower x y c) s ⌝ }
-{
-    let mut p = d[x];
-    let q = d[y];
-    let s = lower_row(&mut p, &q, c);
-    d[x] = p;
-    s
-}
-
-// Link l, both ways.
-fn relax_link(a: &[u8], b: &[u8], c: &[u32], l: usize, d: &mut [[u32; 32]]) -> u32
-    requires { ⌜ Wired (now a) (now b) (now c) (length (now d)) ⌝ }
-    requires { ⌜ LowCols (now d) ⌝ }
-    requires { ⌜ l < length (now a) ⌝ }
-    ensures { λ s. ⌜ Cols (now (d .entry)) (now (d .exit)) (both (netOf (now (a .entry)) (now (b .entry)) (now (c .entry))) l) s ⌝ }
-{
-    let x = wide(end(a, l));
-    let y = wide(end(b, l));
-    let k = cost(c, l);
-    if k >= FAR {
-        return 0;
-    }
-    let p = relax(d, x, y, k);
-    let q = relax(d, y, x, k);
-    join(p, q)
-}
-
-// Every link once, in order. 0 where nothing changed.
-fn sweep_links(a: &[u8], b: &[u8], c: &[u32], d: &mut [[u32; 32]]) -> u32
-    requires { ⌜ Wired (now a) (now b) (now c) (length (now d)) ⌝ }
-    requires { ⌜ LowCols (now d) ⌝ }
-    ensures { λ s. ⌜ Cols (now (d .entry)) (now (d .exit)) (sweep (netOf (now (a .entry)) (now (b .entry)) (now (c .entry))) (length (now (a .entry)))) s ⌝ }
-{
-    let mut changed: u32 = 0;
-    let mut l = 0;
-    while l < a.len() {
-        let more = relax_link(a, b, c, l, d);
-        changed = join(changed, more);
-        l += 1;
-    }
-    changed
-}
-
-// As many sweeps as there are rows, or fewer where one changes nothing.
-fn settle(a: &[u8], b: &[u8], c: &[u32], d: &mut [[u32; 32]])
-    requires { ⌜ Wired (now a) (now b) (now c) (length (now d)) ⌝ }
-    requires { ⌜ LowCols (now d) ⌝ }
-    ensures { λ _. ⌜ Each (now (d .entry)) (now (d .exit)) (rounds (netOf (now (a .entry)) (now (b .entry)) (now (c .entry))) (length (now (d .entry)))) ⌝ }
-{
-    let mut k = 0;
-    while k < d.len() {
-        let more = sweep_links(a, b, c, d);
-        if more == 0 {
-            return;
-        }
-        k += 1;
-    }
-}
+// ---- over one link
 
 fn unit(u: usize) -> [u32; 32]
     requires { ⌜ u < 32 ⌝ }
@@ -227,9 +126,10 @@ fn unit(u: usize) -> [u32; 32]
     r
 }
 
+// Every node at 0 from itself, and no other reached.
 fn begin(d: &mut [[u32; 32]])
     requires { ⌜ length (now d) ≤ 32 ⌝ }
-    ensures { λ _. ⌜ Begun (now (d .exit)) (length (now (d .entry))) ⌝ }
+    ensures { λ _. ⌜ now (d .exit) ≡ upTo unitRow (length (now (d .entry))) ⌝ }
 {
     let mut u = 0;
     while u < d.len() {
@@ -238,11 +138,112 @@ fn begin(d: &mut [[u32; 32]])
     }
 }
 
+fn direct(d: &mut [[u32; 32]], x: usize, y: usize, c: u32)
+    requires { ⌜ Spot (now d) x y c ⌝ }
+    requires { ⌜ LowRows (now d) ⌝ }
+    ensures { λ _. ⌜ now (d .exit) ≡ direct x y c (now (d .entry)) ⌝ }
+{
+    d[x][y] = lesser(d[x][y], c);
+}
+
+// Link l, both ways.
+fn direct_link(a: &[u8], b: &[u8], c: &[u32], l: usize, d: &mut [[u32; 32]])
+    requires { ⌜ Wired (now a) (now b) (now c) (length (now d)) ⌝ }
+    requires { ⌜ LowRows (now d) ⌝ }
+    requires { ⌜ l < length (now a) ⌝ }
+    ensures { λ _. ⌜ now (d .exit) ≡ directLink (netOf (now (a .entry)) (now (b .entry)) (now (c .entry))) l (now (d .entry)) ⌝ }
+{
+    let x = wide(end(a, l));
+    let y = wide(end(b, l));
+    let k = cost(c, l);
+    direct(d, x, y, k);
+    direct(d, y, x, k);
+}
+
+fn direct_links(a: &[u8], b: &[u8], c: &[u32], d: &mut [[u32; 32]])
+    requires { ⌜ Wired (now a) (now b) (now c) (length (now d)) ⌝ }
+    requires { ⌜ LowRows (now d) ⌝ }
+    ensures { λ _. ⌜ now (d .exit) ≡ directLinks (netOf (now (a .entry)) (now (b .entry)) (now (c .entry))) (length (now (a .entry))) (now (d .entry)) ⌝ }
+{
+    let mut l = 0;
+    while l < a.len() {
+        direct_link(a, b, c, l, d);
+        l += 1;
+    }
+}
+
+// ---- through the nodes
+
+// Row p lowered to c + row q, lane by lane.
+fn lower_lanes(p: &mut [u32; 32], q: &[u32; 32], c: u32)
+    requires { ⌜ LowRow (now p) ⌝ }
+    requires { ⌜ LowRow (now q) ⌝ }
+    requires { ⌜ c < far ⌝ }
+    ensures { λ _. ⌜ now (p .exit) ≡ lanes c (now (q .entry)) 32 (now (p .entry)) ⌝ }
+{
+    let mut t = 0;
+    while t < 32 {
+        p[t] = lesser(p[t], c + q[t]);
+        t += 1;
+    }
+}
+
+// Row x lowered to c + row y. Both are copied out, so that the lanes are known not to overlap.
+fn lower_row(d: &mut [[u32; 32]], x: usize, y: usize, c: u32)
+    requires { ⌜ (x < length (now d)) × (y < length (now d)) × (c < far) ⌝ }
+    requires { ⌜ LowRows (now d) ⌝ }
+    ensures { λ _. ⌜ now (d .exit) ≡ lowerRow x y c (now (d .entry)) ⌝ }
+{
+    let mut p = d[x];
+    let q = d[y];
+    lower_lanes(&mut p, &q, c);
+    d[x] = p;
+}
+
+// What u gains by going through v.
+fn through(d: &mut [[u32; 32]], v: usize, u: usize)
+    requires { ⌜ (length (now d) ≤ 32) × (v < length (now d)) × (u < length (now d)) ⌝ }
+    requires { ⌜ LowRows (now d) ⌝ }
+    ensures { λ _. ⌜ now (d .exit) ≡ through v u (now (d .entry)) ⌝ }
+{
+    let c = d[u][v];
+    if c < FAR {
+        lower_row(d, u, v, c);
+    }
+}
+
+// What every node gains by going through v.
+fn pass(d: &mut [[u32; 32]], v: usize)
+    requires { ⌜ (length (now d) ≤ 32) × (v < length (now d)) ⌝ }
+    requires { ⌜ LowRows (now d) ⌝ }
+    ensures { λ _. ⌜ now (d .exit) ≡ pass v (length (now (d .entry))) (now (d .entry)) ⌝ }
+{
+    let mut u = 0;
+    while u < d.len() {
+        through(d, v, u);
+        u += 1;
+    }
+}
+
+// The same through each node in turn.
+fn settle(d: &mut [[u32; 32]])
+    requires { ⌜ length (now d) ≤ 32 ⌝ }
+    requires { ⌜ LowRows (now d) ⌝ }
+    ensures { λ _. ⌜ now (d .exit) ≡ passes (length (now (d .entry))) (length (now (d .entry))) (now (d .entry)) ⌝ }
+{
+    let mut v = 0;
+    while v < d.len() {
+        pass(d, v);
+        v += 1;
+    }
+}
+
 // Column t: the distances toward t, of a topology whose links cost c.
 pub fn distances(a: &[u8], b: &[u8], c: &[u32], d: &mut [[u32; 32]])
     requires { ⌜ Wired (now a) (now b) (now c) (length (now d)) ⌝ }
-    ensures { λ _. ⌜ Settled (netOf (now (a .entry)) (now (b .entry)) (now (c .entry))) (now (d .exit)) (length (now (d .entry))) ⌝ }
+    ensures { λ _. ⌜ now (d .exit) ≡ settled (netOf (now (a .entry)) (now (b .entry)) (now (c .entry))) (length (now (d .entry))) ⌝ }
 {
     begin(d);
-    settle(a, b, c, d);
+    direct_links(a, b, c, d);
+    settle(d);
 }

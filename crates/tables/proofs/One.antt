@@ -15,11 +15,10 @@ use Rattle.rules.specs.File.{Set}
 use Rattle.rules.specs.Isolation.{home}
 use Rattle.rules.specs.Demands.{AcceptedSet}
 use Rattle.rules.specs.Entries.{lists, setWith}
-use Rattle.routes.specs.Sweeps.{start}
-use Rattle.routes.specs.Lanes.{LowCols, Wired, netOf, Settled}
+use Rattle.routes.specs.Lanes.{LowRows}
+use Rattle.routes.specs.Passes.{netOf, Wired, settled}
 use Rattle.routes.specs.Costs.{cost, rowOf, costAt, Links, Distances}
-use Rattle.routes.proofs.Sweeps.{rounds-le, start-low}
-use Rattle.routes.proofs.Exact.{costs-wired, settled-distances}
+use Rattle.routes.proofs.Exact.{costs-wired, settled-low, settled-distances}
 use Rattle.routes.proofs.Held.{held-links, held-costs}
 use Rattle.hops.specs.Ties.{tieTable}
 use Rattle.hops.specs.Alternates.{Homed, RowsTo}
@@ -60,15 +59,11 @@ module _ (net : Network) (a b weights homes rows : List ℕ) (A : AcceptedSet (s
     pub measure-wired : (d : List (List ℕ)) → length d ≡ net .n → Wired a b c (length d)
     measure-wired d l = rw l wired
 
-    pub measured : (d e : List (List ℕ)) → length d ≡ net .n → Settled (netOf a b c) e (length d) → Ready S i c e
+    pub measured : (d e : List (List ℕ)) → length d ≡ net .n → e ≡ settled (netOf a b c) (length d) → Ready S i c e
     unfolding setWith
-    measured d e l Q =
-        let R : Settled (netOf a b c) e (net .n) = rw l at Q in
-        record {
-          costs = is;
-          distances = settled-distances S A i hi c is e R;
-          low = record { low = λ t h. record { low = λ u. rw (R .is t h) (le-trans (rounds-le (netOf a b c) (net .n) (start (net .n) t) u) (start-low (start (net .n) t) (net .n) t refl .low u)) } };
-        }
+    measured d e l q =
+        let r : e ≡ settled (netOf a b c) (net .n) = q ∙ ap (settled (netOf a b c)) l in
+        record { costs = is; distances = settled-distances S A i hi c is e r; low = rw r (settled-low S A i hi c is) }
 
   -- ---- `topology`
   module _ (c : List ℕ) (d w : List (List ℕ)) (W : Work S c d w) where
@@ -89,7 +84,7 @@ module _ (net : Network) (a b weights homes rows : List ℕ) (A : AcceptedSet (s
     unfolding setWith
     ready-wired = measure-wired i hi c (R .costs) d rows-are
 
-    pub ready-low : LowCols d
+    pub ready-low : LowRows d
     ready-low = R .low
 
     pub ready-words : (c₀ : List ℕ) (d₀ w : List (List ℕ)) → Work S c₀ d₀ w → length w ≡ length d

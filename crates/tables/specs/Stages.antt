@@ -7,7 +7,7 @@ use Rattle.rules.specs.Basics.{upTo, flat}
 use Rattle.rules.specs.File.{Set}
 use Rattle.rules.specs.Isolation.{home}
 use Rattle.rules.specs.Distance.{nextHop, alternate}
-use Rattle.routes.specs.Lanes.{LowCols}
+use Rattle.routes.specs.Lanes.{LowRows}
 use Rattle.routes.specs.Costs.{cost, Distances}
 
 -- the next hops of topology i
@@ -28,7 +28,7 @@ entriesOf alts n u = upTo (entry (getD alts u [])) n
 pub record Ready (S : Set) (i : ℕ) (c : List ℕ) (d : List (List ℕ)) : Type 0 where
   pub costs : c ≡ upTo (cost S i) (S .net .m)
   pub distances : Distances S i d
-  pub low : LowCols d
+  pub low : LowRows d
 
 -- the alternates of the nodes whose home is below i stand in their rows
 pub record AlternatesBelow (S : Set) (i : ℕ) (alts : List (List ℕ)) : Type 0 where

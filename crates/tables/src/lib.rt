@@ -95,7 +95,7 @@ fn topology<'a>(
 {
     measure(net, a, b, weights, homes, rows, i, c, d);
     hops::hop_table(a, b, c, d, w, out);
-    hops::alternates(a, b, homes, i, d, alts);
+    hops::alternates::fill(a, b, homes, i, d, alts);
 }
 
 // The same into out at `at`.

@@ -1,7 +1,7 @@
 use Rattle.hops.proofs.Ties.{links-done, links-more, links-none, marked-wide}
 use Rattle.hops.specs.Ties.{Marked, marks}
 use lib.ListN.{length}
-use Rattle.routes.specs.Lanes.{netOf}
+use Rattle.routes.specs.Passes.{netOf}
 use Prim.Native.Nat.{_≤_, _-_}
 use mathlib.Core.Path.{_≡_}
 use borrow.Author.Needs.{needs}

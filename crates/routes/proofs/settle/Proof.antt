@@ -1,45 +1,48 @@
-use Rattle.routes.proofs.Lanes.{wired-in, low-in, round-done, round-more, round-none, round-still}
-use Rattle.routes.specs.Lanes.{Each, netOf}
-use lib.ListN.{length}
-use Rattle.routes.specs.Sweeps.{rounds}
-use Prim.Native.Nat.{_≤_, _-_}
-use mathlib.Core.Path.{_≡_}
+use Rattle.routes.proofs.Steps.{passes-done, passes-low, passes-more, passes-none}
+use Rattle.routes.specs.Passes.{passes}
 use borrow.Author.Needs.{needs}
+use lib.ListN.{length}
+use mathlib.Core.Path.{_≡_}
+use Prim.Native.Nat.{_-_, _≤_}
 use Rattle.routes.proofs.settle.Statement.{statement}
 use Rattle.routes.proofs.settle.Tie as tie
+use Rattle.routes.proofs.settle.Reads as reads
+use Rattle.routes.proofs.settle.Lts as lts
+use Rattle.routes.proofs.pass.Reads as pass-reads
 
 abbrev Inv-loop : tie.InvT-loop
-Inv-loop a b c d₀ k₀ d k = (k ≤ length d₀) × (length d ≡ length d₀) × Each d₀ d (rounds (netOf a b c) k)
+Inv-loop d₀ v₀ d v = (v ≤ length d₀) × (length d ≡ length d₀) × (d ≡ passes (length d₀) v d₀)
 
 abbrev μ-loop : tie.MeasureT-loop
-μ-loop a b c d₀ k₀ d k = length d₀ - k
+μ-loop d₀ v₀ d v = length d₀ - v
 
+-- src/lib.rt:235:5
 loop-holds : tie.Need-loop-holds Inv-loop μ-loop
-loop-holds c = (search needs, search needs, search round-none)
+loop-holds c = (search needs, search needs, search passes-none)
 
-sweep-links-requires : tie.Need-sweep-links-requires Inv-loop μ-loop
-sweep-links-requires c κs = (search wired-in, search low-in)
+-- src/lib.rt:236:9
+pass-requires : tie.Need-pass-requires Inv-loop μ-loop
+pass-requires c κs = ((search needs, search needs), search passes-low)
 
-same-length : tie.Need-same-length Inv-loop μ-loop
-same-length c = search needs
+-- src/lib.rt:237:9
+add-v : tie.Need-add-v Inv-loop μ-loop
+add-v c = search needs
 
-returns : tie.Need-returns Inv-loop μ-loop
-returns c = search round-still
-
-add-k : tie.Need-add-k Inv-loop μ-loop
-add-k c = search needs
-
+-- src/lib.rt:235:5
 loop-less : tie.Need-loop-less Inv-loop μ-loop
 loop-less c = search needs
 
+-- src/lib.rt:235:5
 loop-again : tie.Need-loop-again Inv-loop μ-loop
-loop-again c = (search needs, search needs, search round-more)
+loop-again c = (search needs, search needs, search passes-more)
 
-same-length-2 : tie.Need-same-length-2 Inv-loop μ-loop
-same-length-2 c = search needs
+-- src/lib.rt:229:1
+same-length : tie.Need-same-length Inv-loop μ-loop
+same-length c = search needs
 
-returns-2 : tie.Need-returns-2 Inv-loop μ-loop
-returns-2 c = search round-done
+-- src/lib.rt:229:1
+returns : tie.Need-returns Inv-loop μ-loop
+returns c = search passes-done
 
 pub settle-spec : {M : Type 1} → statement M
 settle-spec =
@@ -48,11 +51,9 @@ settle-spec =
     Inv-loop
     μ-loop
     loop-holds
-    sweep-links-requires
-    same-length
-    returns
-    add-k
+    pass-requires
+    add-v
     loop-less
     loop-again
-    same-length-2
-    returns-2)
+    same-length
+    returns)

@@ -9,8 +9,8 @@ measure-requires c κs = (search needs, (search needs, search work-costs, search
 hop-table-requires : tie.Need-hop-table-requires
 hop-table-requires c κs = (search ready-wired, (search ready-low, (search ready-words, search ready-square)))
 
-alternates-requires : tie.Need-alternates-requires
-alternates-requires c κs =
+fill-requires : tie.Need-fill-requires
+fill-requires c κs =
     let p = c .before .before .before .before .before .before .before .before .before .before .before .before .before .before .before .before .before .before .before .before .before .before .before .pre in
     let R = c .before .before .before .before .before .before .before .before .before .before .before .before .before .measure .ensures in
     (ready-homed _ _ _ _ _ _ (p .0) _ (p .1 .1 .1 .0) _ _ R, ready-alternates _ _ _ _ _ _ (p .0) _ (p .1 .1 .1 .0) _ _ R _ (p .1 .1 .0))
@@ -34,7 +34,7 @@ returns : tie.Need-returns
 returns c =
     let p = c .before .before .before .before .before .before .before .before .before .before .before .before .before .before .before .before .before .before .before .before .before .before .before .before .before .pre in
     let R = c .before .before .before .before .before .before .before .before .before .before .before .before .before .before .before .measure .ensures in
-    added _ _ _ _ _ _ (p .0) _ (p .1 .1 .1 .0) _ _ R _ _ _ (p .1 .1 .0) (c .before .alternates .ensures) (c .before .before .before .before .before .before .before .hop-table .ensures)
+    added _ _ _ _ _ _ (p .0) _ (p .1 .1 .1 .0) _ _ R _ _ _ (p .1 .1 .0) (c .before .fill .ensures) (c .before .before .before .before .before .before .before .hop-table .ensures)
 
 pub topology-spec : {M : Type 1} → statement M
 topology-spec =
@@ -42,7 +42,7 @@ topology-spec =
     (tie.spec
     measure-requires
     hop-table-requires
-    alternates-requires
+    fill-requires
     same-length
     same-length-2
     same-length-3
