@@ -1,5 +1,6 @@
 -- The graph of a file's set, read off the bytes: which link joins two nodes, a node's home, which hops are up.
 use mathlib.Core.Path.{_≡_, refl, sym, ap, ap₂, subst, _∙_}
+use mathlib.Core.Logic.{_⊎_, inl, inr}
 use mathlib.Core.Bool.{Bool, true, false, not, _&&_, _||_}
 use mathlib.Core.List.{List}
 use Prim.Native.Nat.{ℕ, zero, suc, _+_, _*_, _≤_, _<_}
@@ -16,7 +17,8 @@ use Rattle.rules.specs.Limits.{homeRecords}
 use Rattle.rules.specs.File.{Set, headerOf, setOf, endA, endB, homeTopology}
 use Rattle.rules.specs.Isolation.{joins, linkBetween, neighbours, home}
 use Rattle.rules.specs.Forwarding.{faultOf, up}
-use Rattle.rules.proofs.Numbers.{lowest-ext, lowest-one, lowest-none}
+use Rattle.rules.proofs.Choices.{clash}
+use Rattle.rules.proofs.Numbers.{lowest-ext, lowest-is, lowest-one, lowest-none}
 use Rattle.rules.proofs.Rows.{length-upTo, getD-upTo}
 use Rattle.forwarding.specs.Hop.{joinsAt, on}
 
@@ -110,12 +112,26 @@ module _ (s : List ℕ) where
   unfolding up faultOf
   up-nothing f u w e = rw e
 
-  pub up-link : (f : Failure) (u w l x : ℕ) → f ≡ Link l → x ≡ linkBetween (setOf s) u w → not (eqb x l) ≡ on s f u w
+  -- a link of the file that does not join u and w is not the one between them
+  pub link-other : (u w l : ℕ) (h : Network) (t : Bool) → h ≡ headerOf s → l < h .m → t ≡ joinsAt s u w l → not t ≡ true → true ≡ not (eqb (linkBetween (setOf s) u w) l)
+  link-other u w l h t n g e d = rw (link-is u w, ne-eqb x l (λ i. differs i (lowest-is (joinsAt s u w) (headerOf s .m) (headerOf s .m))))
+    where
+      x : ℕ
+      x = lowest (joinsAt s u w) (headerOf s .m) (headerOf s .m)
+
+      differs : x ≡ l → (x ≡ headerOf s .m) ⊎ ((x < headerOf s .m) × (joinsAt s u w x ≡ true)) → ⊥
+      differs i (inl q) = let r : l < headerOf s .m = subst (λ (k : Network). l < k .m) n g in omega arith
+      differs i (inr q) = clash (not t) d (ap not (e ∙ subst (λ (y : ℕ). joinsAt s u w y ≡ true) i (q .1)))
+
+  pub link-same : (u w l x : ℕ) → x ≡ linkBetween (setOf s) u w → not (eqb x l) ≡ not (eqb (linkBetween (setOf s) u w) l)
+  link-same u w l x e = rw e
+
+  pub up-link : (f : Failure) (u w l : ℕ) (t : Bool) → f ≡ Link l → t ≡ not (eqb (linkBetween (setOf s) u w) l) → t ≡ on s f u w
   unfolding up faultOf
-  up-link f u w l x e d = rw (e, d)
+  up-link f u w l t e d = rw e d
 
   pub up-node : (f : Failure) (u w v : ℕ) (t : Bool) → f ≡ Node v → t ≡ not (eqb v u || eqb v w) → t ≡ on s f u w
   unfolding up faultOf
   up-node f u w v t e d = rw e d
 
-pub ruleset graph = (pair-yes, pair-no, neither-first, neither-second, joins-forth, joins-back, sought-none, sought-more, sought-found, sought-out, near-is, home-is, home-none, up-nothing, up-link, up-node)
+pub ruleset graph = (pair-yes, pair-no, neither-first, neither-second, joins-forth, joins-back, sought-none, sought-more, sought-found, sought-out, near-is, home-is, home-none, up-nothing, link-other, link-same, up-link, up-node)

@@ -87,6 +87,21 @@ pub fn home(file: &[u8], net: Network, v: u8) -> u8
 
 // ---- what is down
 
+// The link between u and w is not l, which is down. Where l does not join them, its own record tells, and the other links are
+// not looked through.
+fn link_up(file: &[u8], net: Network, l: u16, u: u8, w: u8) -> bool
+    requires { ⌜ net ≡ headerOf (now file) ⌝ }
+    ensures { λ r. ⌜ r ≡ not (eqb (linkBetween (setOf (now (file .entry))) u w) l) ⌝ }
+{
+    if l < net.m {
+        let joined = joins(file, l as usize, u, w);
+        if !joined {
+            return true;
+        }
+    }
+    link_between(file, net, u, w) != l
+}
+
 // The hop from u to w is up.
 pub fn is_up(file: &[u8], net: Network, failure: Failure, u: u8, w: u8) -> bool
     requires { ⌜ net ≡ headerOf (now file) ⌝ }
@@ -94,7 +109,7 @@ pub fn is_up(file: &[u8], net: Network, failure: Failure, u: u8, w: u8) -> bool
 {
     match failure {
         Failure::Nothing => true,
-        Failure::Link(l) => link_between(file, net, u, w) != l,
+        Failure::Link(l) => link_up(file, net, l, u, w),
         Failure::Node(v) => neither(v, u, w),
     }
 }

@@ -5,34 +5,13 @@ mod argument; // argument.rt: the cap that is asked for
 
 use argument::Asked;
 use argument::Cap;
+use console::file_room;
+use console::refused;
 use libc::STDERR_FILENO;
 use libc::STDIN_FILENO;
 use libc::STDOUT_FILENO;
 use rules::LengthAnswer;
 use rules::Network;
-ghost use mathlib.Core.Path.{_≡_};
-ghost use lib.ListN.{length};
-
-// One byte more than the longest file, so that a longer one is refused.
-fn input() -> [u8; 9193]
-    ensures { λ r. ⌜ 9193 ≡ length r ⌝ }
-{
-    [0; 9193]
-}
-
-fn output() -> [u8; 9192]
-    ensures { λ r. ⌜ 9192 ≡ length r ⌝ }
-{
-    [0; 9192]
-}
-
-fn refused(number: u8, place: usize) {
-    io::write_all(STDERR_FILENO, b"refused ");
-    io::print_decimal(STDERR_FILENO, number as u64);
-    io::write_all(STDERR_FILENO, b" at ");
-    io::print_decimal(STDERR_FILENO, place as u64);
-    io::write_all(STDERR_FILENO, b"\n");
-}
 
 fn write_front(file: &[u8], long: usize) {
     if long <= file.len() {
@@ -44,12 +23,12 @@ fn build_into(graph: &[u8], cap: u8, file: &mut [u8]) {
     let r = builder::build(graph, cap, file);
     match r {
         LengthAnswer::Length(long) => write_front(file, long),
-        LengthAnswer::Refused { number, place } => refused(number, place),
+        LengthAnswer::Refused { number, place } => refused(STDERR_FILENO, number, place),
     }
 }
 
 fn build(graph: &[u8], cap: u8) {
-    let mut file = output();
+    let mut file = file_room();
     build_into(graph, cap, &mut file);
 }
 
@@ -73,7 +52,7 @@ fn plan(graph: &[u8], cap: Cap) {
 }
 
 fn read_and_plan(cap: Cap) {
-    let mut graph = input();
+    let mut graph = file_room();
     let long = io::read_full(STDIN_FILENO, &mut graph);
     plan(&graph[..long], cap);
 }

@@ -1,25 +1,9 @@
 // Each refusal of the report, 1 to 8 and 13, by a damaged file; what is written is compared.
-use report::print;
+use printer::show;
 use report::text::copy;
-use report::text::put;
-use rules::Network;
 ghost use mathlib.Core.Path.{_≡_};
 ghost use Prim.Native.Nat.{_≤_, _<_};
 ghost use lib.ListN.{length};
-
-// Room for the longest report.
-fn text_room() -> [u8; Network::LONGEST_REPORT]
-    ensures { λ r. ⌜ 22875 ≡ length r ⌝ }
-{
-    [0; Network::LONGEST_REPORT]
-}
-
-// What the report program prints of a file.
-fn show(file: &[u8]) {
-    let mut text = text_room();
-    let long = print(file, &mut text);
-    io::write_all(1, &text[..long]);
-}
 
 // Room for the triangle's set and one byte more.
 fn set_room() -> [u8; 66]

@@ -1,15 +1,19 @@
 // The trace: a set from standard input, and a question as arguments: what is down, a source and a destination. One line on standard
 // output for each hop of the packet, seen from the node that makes it, and a last line that says how the run ended; or the refusal.
-mod argument; // argument.rt: the numbers and words among the arguments
 mod question; // question.rt: what is asked
 mod show; // show.rt: the lines
+mod word; // word.rt: the words among the arguments
 
+use console::file_room;
+use console::refused;
 use libc::STDIN_FILENO;
+use libc::STDOUT_FILENO;
 use question::Asked;
 use question::Down;
 use question::Question;
 use rules::Failure;
 use rules::Journey;
+use rules::Network;
 use rules::Packet;
 use rules::RunAnswer;
 use rules::Step;
@@ -17,23 +21,18 @@ use rules::Verdict;
 ghost use mathlib.Core.Path.{_≡_};
 ghost use lib.ListN.{length};
 
-// One byte more than the longest file, so that a longer one is refused.
-fn input() -> [u8; 9193]
-    ensures { λ r. ⌜ 9193 ≡ length r ⌝ }
-{
-    [0; 9193]
-}
-
-fn tables_space() -> [u8; 34816]
+// Room for the longest tables.
+fn tables_room() -> [u8; Network::LONGEST_TABLES]
     ensures { λ r. ⌜ 34816 ≡ length r ⌝ }
 {
-    [0; 34816]
+    [0; Network::LONGEST_TABLES]
 }
 
-fn trail_space() -> [u8; 62]
+// Room for the longest trail.
+fn trail_room() -> [u8; Network::LONGEST_TRAIL]
     ensures { λ r. ⌜ 62 ≡ length r ⌝ }
 {
-    [0; 62]
+    [0; Network::LONGEST_TRAIL]
 }
 
 // ---- the hops
@@ -83,13 +82,13 @@ fn run_into(file: &[u8], q: Question, failure: Failure, tables: &mut [u8], trail
     let r = forwarding::run(file, q.source, q.destination, failure, tables, trail);
     match r {
         RunAnswer::Ended(j) => ended(file, tables, failure, q, j),
-        RunAnswer::Refused { number, place } => show::refused(number, place),
+        RunAnswer::Refused { number, place } => refused(STDOUT_FILENO, number, place),
     }
 }
 
 fn run(file: &[u8], q: Question, failure: Failure) {
-    let mut tables = tables_space();
-    let mut trail = trail_space();
+    let mut tables = tables_room();
+    let mut trail = trail_room();
     run_into(file, q, failure, &mut tables, &mut trail);
 }
 
@@ -118,12 +117,12 @@ fn judged(file: &[u8], q: Question) {
     let v = housefile::judge(file);
     match v {
         Verdict::Accepted => answer(file, q),
-        Verdict::Refused { number, place } => show::refused(number, place),
+        Verdict::Refused { number, place } => refused(STDOUT_FILENO, number, place),
     }
 }
 
 fn read_and_answer(q: Question) {
-    let mut file = input();
+    let mut file = file_room();
     let long = io::read_full(STDIN_FILENO, &mut file);
     judged(&file[..long], q);
 }

@@ -1,7 +1,7 @@
 // The question that the arguments ask.
-use crate::argument::NONE;
-use crate::argument::is_word;
-use crate::argument::node;
+use crate::word::is_word;
+use console::Number;
+use console::argument;
 use libc::STDERR_FILENO;
 
 // What is down: nothing, a link by its two ends, or a node.
@@ -24,40 +24,35 @@ pub enum Asked {
 
 // The source and the destination stand at these places among the arguments.
 fn from_to(down: Down, from: usize, to: usize) -> Asked {
-    let source = node(from);
-    if source >= NONE {
+    let Number::Given(source) = argument(from) else {
         return Asked::Unclear;
-    }
-    let destination = node(to);
-    if destination >= NONE {
+    };
+    let Number::Given(destination) = argument(to) else {
         return Asked::Unclear;
-    }
+    };
     let q = Question {
         down,
-        source: source as u8,
-        destination: destination as u8,
+        source,
+        destination,
     };
     Asked::Clear(q)
 }
 
 fn about_link() -> Asked {
-    let a = node(2);
-    if a >= NONE {
+    let Number::Given(a) = argument(2) else {
         return Asked::Unclear;
-    }
-    let b = node(3);
-    if b >= NONE {
+    };
+    let Number::Given(b) = argument(3) else {
         return Asked::Unclear;
-    }
-    from_to(Down::Link(a as u8, b as u8), 4, 5)
+    };
+    from_to(Down::Link(a, b), 4, 5)
 }
 
 fn about_node() -> Asked {
-    let v = node(2);
-    if v >= NONE {
+    let Number::Given(v) = argument(2) else {
         return Asked::Unclear;
-    }
-    from_to(Down::Node(v as u8), 3, 4)
+    };
+    from_to(Down::Node(v), 3, 4)
 }
 
 // The arguments are counted with the program's own name.

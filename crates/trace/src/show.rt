@@ -17,14 +17,6 @@ fn small(x: u8) {
     number(x as u64);
 }
 
-pub fn refused(n: u8, place: usize) {
-    text(b"refused ");
-    small(n);
-    text(b" at ");
-    number(place as u64);
-    text(b"\n");
-}
-
 pub fn no_link(a: u8, b: u8) {
     text(b"no link joins ");
     small(a);

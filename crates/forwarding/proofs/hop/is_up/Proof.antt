@@ -9,8 +9,8 @@ enum-told c = search needs
 enum-known-failure : tie.Need-enum-known-failure
 enum-known-failure c = search needs
 
-link-between-requires : tie.Need-link-between-requires
-link-between-requires c κs = search needs
+link-up-requires : tie.Need-link-up-requires
+link-up-requires c κs = search needs
 
 enum-known-failure-2 : tie.Need-enum-known-failure-2
 enum-known-failure-2 c = search needs
@@ -33,7 +33,7 @@ is-up-spec =
     (tie.spec
     enum-told
     enum-known-failure
-    link-between-requires
+    link-up-requires
     enum-known-failure-2
     neither-requires
     returns

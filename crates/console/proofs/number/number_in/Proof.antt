@@ -1,19 +1,22 @@
+use Rattle.console.proofs.Laws.{numbers}
 use borrow.Author.Needs.{needs}
+use mathlib.Core.Path.{_≡_}
 use Prim.Native.Nat.{_-_, _≤_}
-use Rattle.planner.proofs.argument.number.Statement.{statement}
-use Rattle.planner.proofs.argument.number.Tie as tie
+use Rattle.console.specs.Numbers.{valueOf}
+use Rattle.console.proofs.number.number_in.Statement.{statement}
+use Rattle.console.proofs.number.number_in.Tie as tie
 
 abbrev Inv-loop : tie.InvT-loop
-Inv-loop text long value₀ i₀ value i = i ≤ long
+Inv-loop text long value₀ i₀ value i = (i ≤ long) × (value ≡ valueOf text i)
 
 abbrev μ-loop : tie.MeasureT-loop
 μ-loop text long value₀ i₀ value i = long - i
 
 returns : tie.Need-returns Inv-loop μ-loop
-returns c = search needs
+returns c = search numbers
 
 loop-holds : tie.Need-loop-holds Inv-loop μ-loop
-loop-holds c = search needs
+loop-holds c = (search needs, search numbers)
 
 byte-requires : tie.Need-byte-requires Inv-loop μ-loop
 byte-requires c κs = search needs
@@ -28,13 +31,16 @@ loop-less : tie.Need-loop-less Inv-loop μ-loop
 loop-less c = search needs
 
 loop-again : tie.Need-loop-again Inv-loop μ-loop
-loop-again c = search needs
+loop-again c = (search needs, search numbers)
+
+given-requires : tie.Need-given-requires Inv-loop μ-loop
+given-requires c κs = search needs
 
 returns-2 : tie.Need-returns-2 Inv-loop μ-loop
-returns-2 c = search needs
+returns-2 c = search numbers
 
-pub number-spec : {M : Type 1} → statement M
-number-spec =
+pub number-in-spec : {M : Type 1} → statement M
+number-in-spec =
     tie.close
     (tie.spec
     Inv-loop
@@ -46,4 +52,5 @@ number-spec =
     add-i
     loop-less
     loop-again
+    given-requires
     returns-2)

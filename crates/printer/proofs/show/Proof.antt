@@ -1,8 +1,8 @@
 use borrow.Author.Needs.{needs}
 use lib.Seq.{length-take-le}
 use mathlib.Core.Path.{sym}
-use Rattle.refusals.proofs.show.Statement.{statement}
-use Rattle.refusals.proofs.show.Tie as tie
+use Rattle.printer.proofs.show.Statement.{statement}
+use Rattle.printer.proofs.show.Tie as tie
 
 text-room-requires : tie.Need-text-room-requires
 text-room-requires c κs = search needs

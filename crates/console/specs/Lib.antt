@@ -1,0 +1,3 @@
+-- Room, and what digits mean.
+pub mod Rooms
+pub mod Numbers
