@@ -27,8 +27,8 @@ static double turn(const Way &way, const vector<Set> &sets, int passes, uint8_t 
     return (now() - from) / (passes * sets.size());
 }
 
-// The least time of one call. The ways take turns, so that a slower spell of the machine falls on all alike. A turn is long: a way that
-// comes after another's has caches and branches to learn anew, and it is the others that have most to learn.
+// The least time of one call. The ways take turns, so that a slower spell of the machine falls on all alike. A turn is long, for the peers'
+// sake: a way that comes after others has its caches and branches to learn anew, and theirs are more.
 static vector<double> least(const vector<Way> &ways, const vector<Set> &sets) {
     vector<uint8_t> out(most_bytes);
     vector<double> best;

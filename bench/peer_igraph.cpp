@@ -46,7 +46,7 @@ void igraph_floyd_warshall(const Topology &g, uint32_t *out) {
 }
 
 namespace {
-// igraph has no view of a part of a graph: the part is made, its nodes numbered anew, which is quicker than igraph_induced_subgraph.
+// igraph has no view of a part of a graph: the part is made, its nodes numbered anew, which is no slower than igraph_induced_subgraph.
 struct Parts : Connectivity {
     const Set &graph;
     igraph_vector_int_t ends;
