@@ -121,7 +121,7 @@ int main() {
     std::printf("Peers: by hand, Boost Graph %s, LEMON %s, igraph %s. ", boost_release().c_str(), lemon_release().c_str(), igraph_release().c_str());
     std::printf("Microseconds of one call; in brackets, how many times the proved entry's.\n");
     vector<vector<double>> tables = over_engines("Tables", our_tables, peer_tables);
-    std::printf("\nThe bar:\n\n");
+    std::printf("\nWhat is asked of the tables:\n\n");
     bar("One set over and over", tables[0], tables[1], 2);
     bar("Different sets in turn", tables[3], tables[4], 2);
     over_engines("Report", our_report, peer_report);
