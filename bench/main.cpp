@@ -1,0 +1,129 @@
+// Times of the proved entries beside the peers', as tables in Markdown. Every way must give the same bytes.
+#include "ours.h"
+#include "peers.h"
+#include <algorithm>
+#include <cstdio>
+#include <cstdlib>
+#include <ctime>
+#include <functional>
+
+struct Way {
+    const char *name;
+    std::function<size_t(const Set &, uint8_t *)> call;
+};
+
+// Processor time, in microseconds: what else the machine does is not counted.
+static double now() {
+    timespec t;
+    clock_gettime(CLOCK_PROCESS_CPUTIME_ID, &t);
+    return t.tv_sec * 1e6 + t.tv_nsec / 1e3;
+}
+
+// The time of one call, over so many passes through the sets.
+static double turn(const Way &way, const vector<Set> &sets, int passes, uint8_t *out) {
+    double from = now();
+    for (int j = 0; j < passes; j++)
+        for (const Set &s : sets) way.call(s, out);
+    return (now() - from) / (passes * sets.size());
+}
+
+// The least time of one call. The ways take turns, so that a slower spell of the machine falls on all alike. A turn is long, for the peers'
+// sake: a way that comes after others has its caches and branches to learn anew, and theirs are more.
+static vector<double> least(const vector<Way> &ways, const vector<Set> &sets) {
+    vector<uint8_t> out(most_bytes);
+    vector<double> best;
+    vector<int> passes;
+    for (const Way &way : ways) {
+        best.push_back(turn(way, sets, 1, out.data()));
+        passes.push_back(1 + (int)(5000 / (best.back() * sets.size())));
+    }
+    for (int round = 0; round < 40; round++)
+        for (size_t w = 0; w < ways.size(); w++) best[w] = std::min(best[w], turn(ways[w], sets, passes[w], out.data()));
+    return best;
+}
+
+static void must_agree(const vector<Way> &ways, const Set &s) {
+    vector<uint8_t> first(most_bytes, 7);
+    size_t length = ways[0].call(s, first.data());
+    for (const Way &way : ways) {
+        vector<uint8_t> other(most_bytes, 7);
+        if (way.call(s, other.data()) == length && std::equal(first.begin(), first.begin() + length, other.begin())) continue;
+        std::fprintf(stderr, "n = %d, m = %d, %s: not the bytes that the proved entry gives\n", s.n, s.m, way.name);
+        std::exit(1);
+    }
+}
+
+static void heading(const char *what, const char *first, const vector<Way> &ways) {
+    std::printf("\n### %s\n\n| %s |", what, first);
+    for (const Way &way : ways) std::printf(" %s |", way.name);
+    std::printf("\n|---|");
+    for (size_t w = 0; w < ways.size(); w++) std::printf("---|");
+    std::printf("\n");
+}
+
+// One row, ours first: this many sets of this size in turn.
+static vector<double> row(const Size &size, int count, const vector<Way> &ways) {
+    vector<Set> sets;
+    for (int j = 0; j < count; j++) sets.push_back(make_set(size, j));
+    for (const Set &s : sets) must_agree(ways, s);
+    vector<double> times = least(ways, sets);
+    std::printf("| %s%s | %.1f |", label(size).c_str(), count > 1 ? (": " + std::to_string(count) + " sets").c_str() : "", times[0]);
+    for (size_t w = 1; w < times.size(); w++) std::printf(" %.1f (%.1f) |", times[w], times[w] / times[0]);
+    std::printf("\n");
+    std::fflush(stdout);
+    return times;
+}
+
+static const char *holds(bool it) { return it ? "holds" : "does not hold"; }
+
+// What is asked of the tables, of the rows at n = 32 and n = 16. `boost` is the way that is Boost Graph's Dijkstra.
+static void bar(const char *which, const vector<double> &wide, const vector<double> &middle, int boost) {
+    double eighth = wide[0] / wide[boost], quarter = middle[0] / middle[boost];
+    bool first = *std::min_element(wide.begin(), wide.end()) == wide[0] && *std::min_element(middle.begin(), middle.end()) == middle[0];
+    std::printf("- %s: at n = 32 at most an eighth (0.125) of Boost's Dijkstra: %.3f, %s; at n = 16 at most a quarter (0.250): %.3f, %s; ", which,
+                eighth, holds(eighth <= 0.125), quarter, holds(quarter <= 0.25));
+    std::printf("faster than every peer at both: %s.\n", holds(first));
+}
+
+// Tables or reports, over every peer's distances: one set over and over, then different sets in turn.
+static vector<vector<double>> over_engines(const char *what, size_t (*ours)(const Set &, uint8_t *), size_t (*theirs)(Engine, const Set &, uint8_t *)) {
+    vector<Way> ways{{"proved", ours}};
+    auto peer = [&](const char *name, Engine engine) {
+        ways.push_back({name, [=](const Set &s, uint8_t *out) { return theirs(engine, s, out); }});
+    };
+    peer("by hand, Dijkstra", hand_dijkstra);
+    peer("Boost, Dijkstra", boost_dijkstra);
+    peer("Boost, Floyd-Warshall", boost_floyd_warshall);
+    peer("LEMON, Dijkstra", lemon_dijkstra);
+    peer("igraph, Dijkstra", igraph_dijkstra);
+    peer("igraph, Floyd-Warshall", igraph_floyd_warshall);
+    heading(what, "n, m, k", ways);
+    vector<vector<double>> rows;
+    for (const Size &size : set_sizes) rows.push_back(row(size, 1, ways));
+    for (const Size &size : set_sizes) rows.push_back(row(size, size.variety, ways));
+    return rows;
+}
+
+static void over_tests(const char *what) {
+    vector<Way> ways{{"proved", our_build}};
+    auto peer = [&](const char *name, Test test) {
+        ways.push_back({name, [=](const Set &s, uint8_t *out) { return peer_build(test, s, out); }});
+    };
+    peer("by hand", hand_search);
+    peer("Boost", boost_components);
+    peer("LEMON", lemon_connected);
+    peer("igraph", igraph_connected);
+    heading(what, "n, m", ways);
+    for (const Size &size : graph_sizes) row(size, size.variety, ways);
+}
+
+int main() {
+    std::printf("Peers: by hand, Boost Graph %s, LEMON %s, igraph %s. ", boost_release().c_str(), lemon_release().c_str(), igraph_release().c_str());
+    std::printf("Microseconds of one call; in brackets, how many times the proved entry's.\n");
+    vector<vector<double>> tables = over_engines("Tables", our_tables, peer_tables);
+    std::printf("\nWhat is asked of the tables:\n\n");
+    bar("One set over and over", tables[0], tables[1], 2);
+    bar("Different sets in turn", tables[3], tables[4], 2);
+    over_engines("Report", our_report, peer_report);
+    over_tests("Build");
+}
