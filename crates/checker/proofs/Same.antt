@@ -1,7 +1,7 @@
 -- The words' rules are those of 01: for a set S and its neighbour words, topology i is judged alike.
 use mathlib.Core.Path.{_≡_, refl, sym, ap, ap₂, _∙_}
 use mathlib.Core.Logic.{_⊎_, inl, inr}
-use mathlib.Core.Bool.{Bool, true, false, not, _&&_, _||_}
+use mathlib.Core.Bool.{Bool, true, false, not, _&&_, _||_, and-false, and-self-left}
 use mathlib.Core.List.{List}
 use Prim.Native.Nat.{ℕ, zero, suc, _^_, _≤_, _<_}
 use native.Mathlib.Omega.{arith}
@@ -9,13 +9,14 @@ use lib.Bits.{and-le-r}
 use lib.Count.{ones}
 use lib.Dec.{eqb, ltb, leb}
 use lib.ListN.{getD}
-use borrow.Author.Tests.{eqb-true, eq-eqb, ne-eqb, ltb-true, ltb-false, lt-ltb, not-true}
+use borrow.Author.Tests.{eqb-true, eq-eqb, ne-eqb, ltb-false, lt-ltb, not-true}
 use Rattle.rules.specs.Basics.{need, all, any, lowest}
 use Rattle.rules.specs.File.{Set}
 use Rattle.rules.specs.Isolation.{neighbours, isolated, isolatedWord, backbone, word, normalHop, spread, reached, connected, restrictedLinks, twoLinks, topologyNumber}
 use Rattle.rules.proofs.Choices.{and-of, and-left, and-right, or-left, or-right, or-cases, clash, false-of, same-test}
 use Rattle.rules.proofs.Numbers.{all-at, all-of, all-ext, any-at, any-of, lowest-found, lowest-before, lowest-one}
 use Rattle.rules.proofs.Rows.{getD-upTo}
+use Rattle.rules.proofs.Homes.{backbone-node}
 use Rattle.words.specs.Word.{has, both, minus, firsts, lowestIn}
 use Rattle.words.proofs.Members.{has-none, has-both, has-minus, has-first, has-one, has-ext, has-word, word-fits, minus-fits, firsts-fits}
 use Rattle.words.proofs.Tally.{ones-word, lowest-word}
@@ -63,15 +64,7 @@ module _ (S : Set) (i : ℕ) (few : S .net .n ≤ 32) where
 
   pub has-backbone : (v : ℕ) → has (backboneWord (S .net .n) (isolatedWord S i)) v ≡ backbone S i v
   unfolding backbone
-  has-backbone v = ap (λ (w : ℕ). has w v) backbone-is ∙ has-word (backbone S i) (S .net .n) v ∙ same (ltb v (S .net .n)) (not (isolated S i v))
-    where
-      same : (p q : Bool) → (p && (p && q)) ≡ (p && q)
-      same true q = refl
-      same false q = refl
-
-  pub backbone-node : (v : ℕ) → backbone S i v ≡ true → v < S .net .n
-  unfolding backbone
-  backbone-node v e = ltb-true v (S .net .n) (and-left (ltb v (S .net .n)) (not (isolated S i v)) e)
+  has-backbone v = ap (λ (w : ℕ). has w v) backbone-is ∙ has-word (backbone S i) (S .net .n) v ∙ and-self-left (ltb v (S .net .n)) (not (isolated S i v))
 
 module _ (S : Set) (i : ℕ) (nb : List ℕ) (W : WordsOf S nb) where
   normal-is : (y x : ℕ) → normal nb (backboneWord (S .net .n) (isolatedWord S i)) y x ≡ normalHop S i y x
@@ -84,16 +77,12 @@ module _ (S : Set) (i : ℕ) (nb : List ℕ) (W : WordsOf S nb) where
       turn false true = refl
       turn false false = refl
 
-      off : (p : Bool) → false ≡ (p && false)
-      off true = refl
-      off false = refl
-
       go : (t : Bool) → backbone S i y ≡ t → (backbone S i y && (backbone S i x && has (getD nb y 0) x)) ≡ (neighbours S y x && (backbone S i y && backbone S i x))
       go true e =
           let few = W .few in
-          let l = backbone-node S i (W .few) y e in
+          let l = backbone-node S i y e in
           rw (e, W .each y x (omega arith)) (turn (backbone S i x) (neighbours S y x))
-      go false e = rw e (off (neighbours S y x))
+      go false e = rw e (sym (and-false (neighbours S y x)))
 
   -- ---- the rounds are those of 01
   module _ (root : ℕ) (at : root ≡ lowest (backbone S i) (S .net .n) (S .net .n)) (inside : backbone S i root ≡ true) where
@@ -125,7 +114,7 @@ module _ (S : Set) (i : ℕ) (nb : List ℕ) (W : WordsOf S nb) where
                 let y = s .0 in
                 let h = and-left (has w y) (normal nb bb y x) (s .2) in
                 let g = and-right (has w y) (normal nb bb y x) (s .2) in
-                let l = backbone-node S i (W .few) y (sym (has-backbone S i (W .few) y) ∙ and-left (has bb y) (has bb x && has (getD nb y 0) x) g) in
+                let l = backbone-node S i y (sym (has-backbone S i (W .few) y) ∙ and-left (has bb y) (has bb x && has (getD nb y 0) x) g) in
                 any-of (λ u. getD (reached S i k) u false && normalHop S i u x) (S .net .n) y l
                 (and-of (getD (reached S i k) y false) (normalHop S i y x) (sym (ih y l) ∙ h) (sym (normal-is y x) ∙ g))
 
@@ -143,7 +132,7 @@ module _ (S : Set) (i : ℕ) (nb : List ℕ) (W : WordsOf S nb) where
     reached-same x l =
         ap (λ (w : ℕ). has w x)
         (reached-by nb (backboneWord (S .net .n) (isolatedWord S i)) root (backbone-fits S i (W .few)) in-word (S .net .n)
-        (λ v e. backbone-node S i (W .few) v (sym (has-backbone S i (W .few) v) ∙ e)) (W .few))
+        (λ v e. backbone-node S i v (sym (has-backbone S i (W .few) v) ∙ e)) (W .few))
         ∙ round-is (S .net .n) x l
 
   -- ---- 7
@@ -164,7 +153,7 @@ module _ (S : Set) (i : ℕ) (nb : List ℕ) (W : WordsOf S nb) where
       go false e =
           let z : bb ≡ 0 =
           has-ext 32 bb 0 (backbone-fits S i (W .few)) (omega arith)
-          (λ v l. has-backbone S i (W .few) v ∙ false-of (backbone S i v) (λ b. clash (any (backbone S i) (S .net .n)) (any-of (backbone S i) (S .net .n) v (backbone-node S i (W .few) v b) b) e) ∙ sym (has-none v)) in
+          (λ v l. has-backbone S i (W .few) v ∙ false-of (backbone S i v) (λ b. clash (any (backbone S i) (S .net .n)) (any-of (backbone S i) (S .net .n) v (backbone-node S i v b) b) e) ∙ sym (has-none v)) in
           rw (e, z)
       go true e = rw (e, ne-eqb bb 0 there) (same-test (eqb (reachedWord nb bb (lowestIn bb)) bb) (all covered (S .net .n)) down up)
         where
@@ -211,7 +200,7 @@ module _ (S : Set) (i : ℕ) (nb : List ℕ) (W : WordsOf S nb) where
             where
               each : (v : ℕ) → backbone S i v ≡ true → has (reachedWord nb bb (lowestIn bb)) v ≡ true
               each v b =
-                  let l = backbone-node S i (W .few) v b in
+                  let l = backbone-node S i v b in
                   reached-same (lowestIn bb) at inside v l
                   ∙ pick (or-cases (not (backbone S i v)) (getD (reached S i (S .net .n)) v false) (all-at covered (S .net .n) q v l))
                 where
@@ -230,11 +219,7 @@ module _ (S : Set) (i : ℕ) (nb : List ℕ) (W : WordsOf S nb) where
       keep : (w : ℕ) (t : Bool) → ltb w (S .net .n) ≡ t → (neighbours S v w && backbone S i w) ≡ (ltb w (S .net .n) && (neighbours S v w && backbone S i w))
       keep w true e = rw e
       keep w false e =
-          rw (e, false-of (backbone S i w) (λ b. let h = backbone-node S i (W .few) w b in let g = ltb-false w (S .net .n) e in omega arith)) (off (neighbours S v w))
-        where
-          off : (p : Bool) → (p && false) ≡ false
-          off true = refl
-          off false = refl
+          rw (e, false-of (backbone S i w) (λ b. let h = backbone-node S i w b in let g = ltb-false w (S .net .n) e in omega arith)) (and-false (neighbours S v w))
 
       masked : both (getD nb v 0) bb ≡ word (λ w. neighbours S v w && backbone S i w) (S .net .n)
       masked =

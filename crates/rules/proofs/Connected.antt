@@ -1,19 +1,20 @@
 -- The backbone rule: `connected` is that some node is in the backbone, and between any two of its nodes there is a walk of normal links.
 use mathlib.Core.Path.{_≡_, refl, sym, ap, _∙_}
-use mathlib.Core.Bool.{Bool, true, false, not, _&&_, _||_}
+use mathlib.Core.Bool.{Bool, true, false, not, _&&_, _||_, or-comm}
 use mathlib.Core.Logic.{_↔_}
-use Prim.Native.Nat.{ℕ, _<_}
+use Prim.Native.Nat.{ℕ}
 use native.Mathlib.Omega.{arith}
 use lib.Dec.{eqb, ltb}
 use lib.ListN.{getD, List·getD-eq-default}
-use borrow.Author.Tests.{ltb-true, ltb-false, lt-ltb, eqb-true, eq-eqb, not-true}
+use borrow.Author.Tests.{ltb-true, ltb-false, lt-ltb, eqb-true, eq-eqb}
 use Rattle.rules.specs.Basics.{any, all, lowest, upTo}
 use Rattle.rules.specs.File.{Set}
-use Rattle.rules.specs.Isolation.{joins, linkBetween, neighbours, isolated, backbone, normalHop, spread, reached, connected}
+use Rattle.rules.specs.Isolation.{joins, linkBetween, neighbours, backbone, normalHop, spread, reached, connected}
 use Rattle.rules.specs.Demands.{Walk}
 use Rattle.rules.proofs.Choices.{and-of, and-left, and-right, or-left, or-right, same-test}
 use Rattle.rules.proofs.Numbers.{all-at, all-of, any-at, any-of, lowest-ext, lowest-found}
 use Rattle.rules.proofs.Rows.{length-upTo, getD-upTo}
+use Rattle.rules.proofs.Homes.{backbone-node}
 use Rattle.rules.proofs.Walks.{join, turn}
 use Rattle.rules.proofs.Spreading.{Spreading, walked, reaches}
 
@@ -24,34 +25,16 @@ pub record Joined (S : Set) (i : ℕ) : Type 0 where
 
 -- ---- links go both ways
 
-or-swap : (a b : Bool) → (a || b) ≡ (b || a)
-or-swap true true = refl
-or-swap true false = refl
-or-swap false true = refl
-or-swap false false = refl
-
 pub neighbours-back : (S : Set) (u w : ℕ) → neighbours S u w ≡ neighbours S w u
 unfolding neighbours linkBetween joins
 neighbours-back S u w =
     ap (λ (l : ℕ). ltb l (S .net .m))
     (lowest-ext (λ l. joins S l u w) (λ l. joins S l w u) (S .net .m) (S .net .m)
-    (λ l h. or-swap (eqb (getD (S .a) l 0) u && eqb (getD (S .b) l 0) w) (eqb (getD (S .a) l 0) w && eqb (getD (S .b) l 0) u)))
+    (λ l h. or-comm (eqb (getD (S .a) l 0) u && eqb (getD (S .b) l 0) w) (eqb (getD (S .a) l 0) w && eqb (getD (S .b) l 0) u)))
 
--- ---- the backbone and its hops, for the numbers of nodes
+-- ---- the hops of the backbone
 
 module _ (S : Set) (i : ℕ) where
-  pub backbone-of : (v : ℕ) → v < S .net .n → isolated S i v ≡ false → backbone S i v ≡ true
-  unfolding backbone
-  backbone-of v l e = and-of (ltb v (S .net .n)) (not (isolated S i v)) (lt-ltb v (S .net .n) l) (ap not e)
-
-  pub backbone-node : (v : ℕ) → backbone S i v ≡ true → v < S .net .n
-  unfolding backbone
-  backbone-node v e = ltb-true v (S .net .n) (and-left (ltb v (S .net .n)) (not (isolated S i v)) e)
-
-  pub backbone-free : (v : ℕ) → backbone S i v ≡ true → isolated S i v ≡ false
-  unfolding backbone
-  backbone-free v e = not-true (isolated S i v) (and-right (ltb v (S .net .n)) (not (isolated S i v)) e)
-
   pub hop-of : (u w : ℕ) → neighbours S u w ≡ true → backbone S i u ≡ true → backbone S i w ≡ true → normalHop S i u w ≡ true
   unfolding normalHop
   hop-of u w e p q = and-of (neighbours S u w) (backbone S i u && backbone S i w) e (and-of (backbone S i u) (backbone S i w) p q)

@@ -7,13 +7,12 @@ mod draft; // draft.rt: the judgement of the records
 pub mod store; // store.rt: the bytes of a set
 
 use housefile::rule;
+use order::need_room;
+use order::then;
 use rules::LengthAnswer;
 use rules::Network;
 use rules::Verdict;
 ghost use mathlib.Core.Path.{_≡_};
-ghost use lib.Dec.{leb};
-ghost use Rattle.rules.specs.Basics.{need};
-ghost use Rattle.rules.specs.Judgement.{refuse, andThen};
 ghost use Rattle.rules.specs.Entries.{Promise, lists, writeEntry};
 ghost use Rattle.writer.specs.Parts.{shortNumber, recordsThenRoom, writeVerdict};
 
@@ -48,32 +47,6 @@ fn short(
     0
 }
 
-// Room under what it is to hold.
-fn room(wanted: usize, long: usize) -> Verdict
-    ensures { λ r. ⌜ r ≡ refuse (need (leb wanted long) 14 0) 0 ⌝ }
-{
-    if long < wanted {
-        return Verdict::Refused {
-            number: 14,
-            place: 0,
-        };
-    }
-    Verdict::Accepted
-}
-
-// The first of two that refuses.
-fn first(v: Verdict, w: Verdict) -> Verdict
-    ensures { λ r. ⌜ r ≡ andThen v w ⌝ }
-{
-    match v {
-        Verdict::Accepted => w,
-        Verdict::Refused {
-            number: _,
-            place: _,
-        } => v,
-    }
-}
-
 // The records, then the room.
 fn records_then_room(
     net: Network,
@@ -87,8 +60,8 @@ fn records_then_room(
     ensures { λ r. ⌜ r ≡ recordsThenRoom net (lists (now (a .entry)) (now (b .entry)) (now (weights .entry)) (now (homes .entry)) (now (rows .entry))) long ⌝ }
 {
     let records = draft::records(net, a, b, weights, homes, rows);
-    let room = room(housefile::file_length(net), long);
-    first(records, room)
+    let room = need_room(housefile::file_length(net), long);
+    then(records, room)
 }
 
 // What writing these lists answers, into a room that is so long.
