@@ -19,7 +19,8 @@ use Rattle.rules.specs.Entries.{Promise, onAccept, Lists, lists, needLists, set
 use Rattle.rules.proofs.Choices.{need-ok, refuse-ok, refuse-no, refuse-zero, then-ok, then-no, then-second}
 use Rattle.rules.proofs.Encoded.{encode-long, header-back, header-marked}
 use Rattle.rules.proofs.Records.{HeaderMeets, counts-ok, header-zero}
-use Rattle.writer.specs.Parts.{shortNumber, recordsThenRoom, writeVerdict, put}
+use Rattle.housefile.specs.Rules.{listsRule}
+use Rattle.writer.specs.Parts.{recordsThenRoom, writeVerdict, put}
 use Rattle.writer.proofs.Stores.{put-laid}
 
 -- ---- the records, then the room
@@ -49,12 +50,12 @@ module _ (h : Network) (d : Lists) (room counts : ℕ) (e : counts ≡ needCount
   counts-taken z = ap (λ (x : ℕ). refuse x 0) (sym e) ∙ sym (refuse-ok counts 0 z)
 
 module _ (h : Network) (a b weights homes rows : List ℕ) (room counts : ℕ) (e : counts ≡ needCounts h 0) (z : counts ≡ 0) (number n all : ℕ)
-    (s : number ≡ shortNumber (h .m) n all (length a) (length b) (length weights) (length homes) (length rows)) (p : n ≡ homeRecords h) (q : all ≡ rowStart h (h .k)) where
+    (s : number ≡ listsRule 1 h (length a) (length b) (length weights) (length homes) (length rows) n all) (p : n ≡ homeRecords h) (q : all ≡ rowStart h (h .k)) where
   abbrev given : Lists
   given = lists a b weights homes rows
 
   short-is : refuse number 0 ≡ needLists 1 h given
-  unfolding needLists shortNumber rowStart
+  unfolding needLists listsRule rowStart
   short-is = rw (s, p, q)
 
   pub lists-refused : (number ≡ 0 → ⊥) → Refused number 0 ≡ writeVerdict h given room

@@ -14,38 +14,7 @@ use rules::Network;
 use rules::Verdict;
 ghost use mathlib.Core.Path.{_≡_};
 ghost use Rattle.rules.specs.Entries.{Promise, lists, writeEntry};
-ghost use Rattle.writer.specs.Parts.{shortNumber, recordsThenRoom, writeVerdict};
-
-// A list under what it needs: `m` for the links, `count` homes, `all` weights of rows.
-fn short(
-    m: usize,
-    count: usize,
-    all: usize,
-    a: usize,
-    b: usize,
-    weights: usize,
-    homes: usize,
-    rows: usize,
-) -> u8
-    ensures { λ r. ⌜ r ≡ shortNumber m count all a b weights homes rows ⌝ }
-{
-    if a < m {
-        return 1;
-    }
-    if b < m {
-        return 1;
-    }
-    if weights < m {
-        return 1;
-    }
-    if homes < count {
-        return 1;
-    }
-    if rows < all {
-        return 1;
-    }
-    0
-}
+ghost use Rattle.writer.specs.Parts.{recordsThenRoom, writeVerdict};
 
 // The records, then the room.
 fn records_then_room(
@@ -83,15 +52,16 @@ fn judged(
             place: 0,
         };
     }
-    let number = short(
-        net.m as usize,
-        housefile::home_records(net),
-        list::row_start(net, net.k as usize),
+    let number = rule::lists(
+        1,
+        net,
         a.len(),
         b.len(),
         weights.len(),
         homes.len(),
         rows.len(),
+        housefile::home_records(net),
+        list::row_start(net, net.k as usize),
     );
     if number != 0 {
         return Verdict::Refused { number, place: 0 };
