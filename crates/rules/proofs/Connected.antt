@@ -72,13 +72,12 @@ module _ (S : Set) (i : ℕ) where
   abbrev In : ℕ → ℕ → Bool
   In h v = getD (reached S i h) v false
 
-  spreading : backbone S i root ≡ true → Spreading (S .net .n) (S .net .n) root (normalHop S i) In
+  spreading : backbone S i root ≡ true → Spreading (S .net .n) root (normalHop S i) In
   unfolding reached spread
   spreading inside =
       let low = backbone-node S i root inside in
       let first = test-at (λ u. eqb u root) (S .net .n) in
       record {
-        narrow = omega arith;
         low = low;
         below = λ u v e. backbone-node S i v (hop-to S i u v e);
         begun = first root ∙ and-of (ltb root (S .net .n)) (eqb root root) (lt-ltb root (S .net .n) low) (eq-eqb root root refl);
@@ -94,14 +93,19 @@ module _ (S : Set) (i : ℕ) where
   kept : ℕ → Bool
   kept v = not (backbone S i v) || In (S .net .n) v
 
+  -- walks from one node of the backbone to all of it are enough
+  pub joined-from : (u : ℕ) → backbone S i u ≡ true → ((v : ℕ) → backbone S i v ≡ true → Walk (normalHop S i) u v) → Joined S i
+  joined-from u b from =
+      record {
+        some = (u, b);
+        joined = λ v w p q. join (normalHop S i) v u w (turn (normalHop S i) (hop-back S i) u v (from v p)) (from w q);
+      }
+
   pub connected-joined : connected S i ≡ true → Joined S i
   unfolding connected kept
   connected-joined e =
       let s = any-at (backbone S i) (S .net .n) (and-left (any (backbone S i) (S .net .n)) (all kept (S .net .n)) e) in
-      record {
-        some = (s .0, s .2);
-        joined = λ u w p q. join (normalHop S i) u root w (turn (normalHop S i) (hop-back S i) root u (from u p)) (from w q);
-      }
+      joined-from root (root-in (s .0) (s .2)) from
     where
       from : (v : ℕ) → backbone S i v ≡ true → Walk (normalHop S i) root v
       from v p =

@@ -11,24 +11,23 @@ use Rattle.rules.specs.Demands.{Walk, stay, go}
 use Rattle.rules.proofs.Choices.{and-of, and-left, and-right, or-left, or-right, or-cases, clash, true-of}
 use Rattle.rules.proofs.Numbers.{any-at, any-of, none-of, count-lt, count-all}
 
--- In h v: v is reached in h rounds. A round looks at the numbers below `wide`; the root and all that R leads to lie below n
-pub record Spreading (n wide root : ℕ) (R In : ℕ → ℕ → Bool) : Type 0 where
-  pub narrow : n ≤ wide
+-- In h v: v is reached in h rounds. The root and all that R leads to lie below n
+pub record Spreading (n root : ℕ) (R In : ℕ → ℕ → Bool) : Type 0 where
   pub low : root < n
   pub below : (u v : ℕ) → R u v ≡ true → v < n
   pub begun : In 0 root ≡ true
   pub alone : (v : ℕ) → In 0 v ≡ true → v ≡ root
-  pub next : (h v : ℕ) → In (suc h) v ≡ (ltb v wide && (In h v || any (λ u. In h u && R u v) wide))
+  pub next : (h v : ℕ) → In (suc h) v ≡ (ltb v n && (In h v || any (λ u. In h u && R u v) n))
 
-module _ {n wide root : ℕ} {R In : ℕ → ℕ → Bool} (s : Spreading n wide root R In) where
+module _ {n root : ℕ} {R In : ℕ → ℕ → Bool} (s : Spreading n root R In) where
   -- what is reached in one round more was reached, or R leads to it from such a number
   came : (h v : ℕ) → In (suc h) v ≡ true → (In h v ≡ true) ⊎ ((u : ℕ) × (In h u ≡ true) × (R u v ≡ true))
-  came h v e = pick (or-cases (In h v) (any (λ u. In h u && R u v) wide) (and-right (ltb v wide) _ (sym (s .next h v) ∙ e)))
+  came h v e = pick (or-cases (In h v) (any (λ u. In h u && R u v) n) (and-right (ltb v n) _ (sym (s .next h v) ∙ e)))
     where
-      pick : (In h v ≡ true) ⊎ (any (λ u. In h u && R u v) wide ≡ true) → (In h v ≡ true) ⊎ ((u : ℕ) × (In h u ≡ true) × (R u v ≡ true))
+      pick : (In h v ≡ true) ⊎ (any (λ u. In h u && R u v) n ≡ true) → (In h v ≡ true) ⊎ ((u : ℕ) × (In h u ≡ true) × (R u v ≡ true))
       pick (inl q) = inl q
       pick (inr q) =
-          let a = any-at (λ u. In h u && R u v) wide q in
+          let a = any-at (λ u. In h u && R u v) n q in
           inr (a .0, and-left (In h (a .0)) (R (a .0) v) (a .2), and-right (In h (a .0)) (R (a .0) v) (a .2))
 
   pub walked : (h v : ℕ) → In h v ≡ true → Walk R root v
@@ -45,17 +44,12 @@ module _ {n wide root : ℕ} {R In : ℕ → ℕ → Bool} (s : Spreading n wide
 
   keeps : (h v : ℕ) → In h v ≡ true → In (suc h) v ≡ true
   keeps h v e =
-      let l = node v (walked h v e) in
-      let w = s .narrow in
-      s .next h v ∙ and-of (ltb v wide) _ (lt-ltb v wide (omega arith)) (or-left (In h v) _ e)
+      s .next h v ∙ and-of (ltb v n) _ (lt-ltb v n (node v (walked h v e))) (or-left (In h v) _ e)
 
   takes : (h u v : ℕ) → In h u ≡ true → R u v ≡ true → In (suc h) v ≡ true
   takes h u v e d =
-      let l = node u (walked h u e) in
-      let k = s .below u v d in
-      let w = s .narrow in
-      s .next h v ∙ and-of (ltb v wide) _ (lt-ltb v wide (omega arith))
-      (or-right (In h v) _ (any-of (λ x. In h x && R x v) wide u (omega arith) (and-of (In h u) (R u v) e d)))
+      s .next h v ∙ and-of (ltb v n) _ (lt-ltb v n (s .below u v d))
+      (or-right (In h v) _ (any-of (λ x. In h x && R x v) n u (node u (walked h u e)) (and-of (In h u) (R u v) e d)))
 
   -- the next round adds nothing
   Settled : ℕ → Type 0
