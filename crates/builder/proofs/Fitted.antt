@@ -1,8 +1,8 @@
 -- First fit over words is first fit of 01, for a graph and its neighbour words.
 use mathlib.Core.Path.{_≡_, refl, sym, ap, _∙_}
-use mathlib.Core.Bool.{Bool, true, false, _&&_}
+use mathlib.Core.Bool.{Bool, true, false, _&&_, and-false}
 use mathlib.Core.List.{List}
-use Prim.Native.Nat.{ℕ, zero, suc, _-_, _≤_, _<_}
+use Prim.Native.Nat.{ℕ, zero, suc, _≤_, _<_}
 use native.Mathlib.Omega.{arith}
 use lib.Dec.{eqb, ltb, leb}
 use lib.ListN.{length, getD, set}
@@ -40,13 +40,9 @@ module _ (G : Set) (nb : List ℕ) (W : WordsOf G nb) where
       S : Set
       S = withHomes G (set (homeless G) v 1)
 
-      none : (t : Bool) → (t && false) ≡ false
-      none true = refl
-      none false = refl
-
       low : (x : ℕ) (t : Bool) → eqb x v ≡ t → (ltb x (G .net .n) && eqb x v) ≡ eqb x v
       low x true e = rw (e, eqb-true x v e, lt-ltb v (G .net .n) l)
-      low x false e = rw e (none (ltb x (G .net .n)))
+      low x false e = rw e (and-false (ltb x (G .net .n)))
 
   spared-same : (v : ℕ) → v < G .net .n → sparedBy nb (G .net .n) v ≡ spared G v
   unfolding sparedBy spared withHomes

@@ -1,6 +1,6 @@
 -- First fit as it runs: what the proofs of its functions cite.
 use mathlib.Core.Path.{_≡_, refl, sym, ap, _∙_}
-use mathlib.Core.Bool.{Bool, true, false, _&&_, _||_, true≢false}
+use mathlib.Core.Bool.{Bool, true, false, _&&_, _||_, and-false, or-true, or-false, true≢false}
 use mathlib.Core.List.{List}
 use Prim.Native.Nat.{ℕ, suc, _+_, _-_, _≤_, _<_, max}
 use native.Mathlib.Numerals.{add-one}
@@ -59,12 +59,8 @@ unfolding isolatedBy
 isos-none n few =
     record {
       each = λ i l. homeless-at 32 i ∙ sym (has-ext 32 (word (λ u. eqb (getD (replicate n 0) u 0) (suc i)) n) 0 (word-fits (λ u. eqb (getD (replicate n 0) u 0) (suc i)) n few) (omega arith)
-          (λ v lv. has-word (λ u. eqb (getD (replicate n 0) u 0) (suc i)) n v ∙ ap (λ (t : Bool). ltb v n && t) (ne-eqb (getD (replicate n 0) v 0) (suc i) (λ z. let q = homeless-at n v in omega arith)) ∙ off (ltb v n) ∙ sym (has-none v)));
+          (λ v lv. has-word (λ u. eqb (getD (replicate n 0) u 0) (suc i)) n v ∙ ap (λ (t : Bool). ltb v n && t) (ne-eqb (getD (replicate n 0) v 0) (suc i) (λ z. let q = homeless-at n v in omega arith)) ∙ and-false (ltb v n) ∙ sym (has-none v)));
     }
-  where
-    off : (t : Bool) → (t && false) ≡ false
-    off true = refl
-    off false = refl
 
 -- with v at home in i, i's word has v too, and no other word changes
 pub isolated-adding : (homes : List ℕ) (n v i : ℕ) → n ≤ 32 → v < n → length homes ≡ n → adding (isolatedBy homes n i) v ≡ isolatedBy (set homes v i) n i
@@ -79,19 +75,11 @@ isolated-adding homes n v i few l long =
     q : ℕ → Bool
     q u = eqb (getD (set homes v i) u 0) i
 
-    on : (t : Bool) → (t || true) ≡ true
-    on true = refl
-    on false = refl
-
-    off : (t : Bool) → (t || false) ≡ t
-    off true = refl
-    off false = refl
-
     go : (u : ℕ) (t : Bool) → eqb u v ≡ t → ((ltb u n && p u) || eqb u v) ≡ (ltb u n && q u)
     go u true e =
         let s = eqb-true u v e in
-        rw (e, s) (on (ltb v n && p v) ∙ sym (and-of (ltb v n) (q v) (lt-ltb v n l) (eq-eqb (getD (set homes v i) v 0) i (getD-set-same homes v i 0 (omega arith)))))
-    go u false e = rw e (off (ltb u n && p u) ∙ ap (λ (x : ℕ). ltb u n && eqb x i) (sym (getD-set-other homes v u i 0 (eqb-false u v e))))
+        rw (e, s) (or-true (ltb v n && p v) ∙ sym (and-of (ltb v n) (q v) (lt-ltb v n l) (eq-eqb (getD (set homes v i) v 0) i (getD-set-same homes v i 0 (omega arith)))))
+    go u false e = rw e (or-false (ltb u n && p u) ∙ ap (λ (x : ℕ). ltb u n && eqb x i) (sym (getD-set-other homes v u i 0 (eqb-false u v e))))
 
 isolated-same : (homes : List ℕ) (n v i home : ℕ) → v < n → length homes ≡ n → getD homes v 0 ≡ 0 → (home ≡ i → ⊥) → (i ≡ 0 → ⊥) → isolatedBy homes n i ≡ isolatedBy (set homes v home) n i
 unfolding isolatedBy

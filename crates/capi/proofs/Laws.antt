@@ -1,9 +1,8 @@
 -- Answers as words.
-use mathlib.Core.Path.{_≡_, refl, sym, ap, subst, _∙_}
+use mathlib.Core.Path.{_≡_, ap, subst, _∙_}
 use mathlib.Core.List.{List, [], _∷_}
 use Prim.Native.Nat.{ℕ, _+_, _*_, _%_, _≤_, _<_}
 use native.Mathlib.Omega.{arith}
-use lib.Dec.{eqb, ltb}
 use borrow.Author.Tests.{eq-eqb, ne-eqb, lt-ltb, le-ltb}
 use Rattle.rules.specs.declared.Network.{Network}
 use Rattle.rules.specs.declared.Packet.{Packet}
@@ -11,7 +10,6 @@ use Rattle.rules.specs.declared.Journey.{Journey}
 use Rattle.rules.specs.declared.Failure.{Failure}
 use Rattle.rules.specs.declared.Failure.the-variants.{Nothing, Link, Node}
 use Rattle.rules.specs.declared.Kind.{Kind}
-use Rattle.rules.specs.declared.Kind.the-variants as change
 use Rattle.rules.specs.declared.Outcome.{Outcome}
 use Rattle.rules.specs.declared.Outcome.the-variants as ended
 use Rattle.rules.specs.declared.Step.{Step}
@@ -28,8 +26,9 @@ use Rattle.rules.specs.declared.RunAnswer.{RunAnswer}
 use Rattle.rules.specs.declared.RunAnswer.the-variants as ran
 use Rattle.rules.specs.Basics.{if_then_else_}
 use Rattle.rules.specs.Report.{letter}
-use Rattle.rules.specs.Answers.{tell, verdictTells, headerValues, readTells, lengthTells, outcomeValue, packetValues, stepValues, stepTells, journeyValues, runTells}
+use Rattle.rules.specs.Answers.{verdictTells, headerValues, readTells, lengthTells, outcomeValue, packetValues, stepValues, stepTells, journeyValues, runTells}
 use Rattle.rules.specs.Entries.{Entry, Promise, Lists, BuildInput, WriteInput, StepInput, RunInput, RunLent, checkEntry, buildEntry, tablesEntry, writeEntry, readEntry, stepEntry, runEntry}
+use Rattle.rules.proofs.ChangeKinds.{letter-none, letter-t, letter-s, letter-d}
 use Rattle.capi.specs.Words.{refusedWord, pack, wordOf, byLength, byRead, byStep, byRun, failureOf, Answers}
 
 -- ---- words
@@ -66,23 +65,7 @@ pub read-refused : (a : ReadAnswer) (number place w : ℕ) → a ≡ read.Refuse
 unfolding wordOf readTells
 read-refused a number place w e d = d ∙ rw e
 
--- ---- letters and outcomes
-
-pub letter-none : (k : Kind) → k ≡ change.Unchanged → 45 ≡ letter k
-unfolding letter
-letter-none k e = rw e
-
-pub letter-t : (k : Kind) → k ≡ change.T → 84 ≡ letter k
-unfolding letter
-letter-t k e = rw e
-
-pub letter-s : (k : Kind) → k ≡ change.S → 83 ≡ letter k
-unfolding letter
-letter-s k e = rw e
-
-pub letter-d : (k : Kind) → k ≡ change.D → 68 ≡ letter k
-unfolding letter
-letter-d k e = rw e
+-- ---- outcomes
 
 pub outcome-under-way : (o : Outcome) → o ≡ ended.UnderWay → 0 ≡ outcomeValue o
 unfolding outcomeValue

@@ -1,6 +1,6 @@
 -- The words gathered from a file's bytes are the neighbours and the isolated nodes of the set that it holds.
 use mathlib.Core.Path.{_≡_, refl, sym, ap, ap₂, _∙_}
-use mathlib.Core.Bool.{Bool, true, false, _&&_, _||_}
+use mathlib.Core.Bool.{Bool, true, false, _&&_, _||_, or-false}
 use mathlib.Core.List.{List}
 use Prim.Native.Nat.{ℕ, zero, suc, _≤_, _<_}
 use native.Mathlib.Omega.{arith}
@@ -44,17 +44,13 @@ has-entered : (nb : List ℕ) (x y u v : ℕ) → u < length nb → has (getD (e
 unfolding entered
 has-entered nb x y u v h = go (eqb x u) refl
   where
-    none : (p : Bool) → p ≡ (p || false)
-    none true = refl
-    none false = refl
-
     go : (t : Bool) → eqb x u ≡ t → has (getD (set nb x (adding (getD nb x 0) y)) u 0) v ≡ (has (getD nb u 0) v || (eqb x u && eqb y v))
     go true e =
         let q = eqb-true x u e in
         rw (e, q) (ap (λ (w : ℕ). has w v) (getD-set-same nb u (adding (getD nb u 0) y) 0 h) ∙ has-adding (getD nb u 0) y v ∙ ap (λ (t : Bool). has (getD nb u 0) v || t) (same-eqb v y))
     go false e =
         let q = eqb-false x u e in
-        rw e (ap (λ (w : ℕ). has w v) (getD-set-other nb x u (adding (getD nb x 0) y) 0 (λ z. q (sym z))) ∙ none (has (getD nb u 0) v))
+        rw e (ap (λ (w : ℕ). has w v) (getD-set-other nb x u (adding (getD nb x 0) y) 0 (λ z. q (sym z))) ∙ sym (or-false (has (getD nb u 0) v)))
 
 -- link l joins u and v, by its ends
 abbrev pub between : (ℕ → ℕ) → (ℕ → ℕ) → ℕ → ℕ → ℕ → Bool
@@ -62,11 +58,7 @@ between A B u v l = (eqb (A l) u && eqb (B l) v) || (eqb (A l) v && eqb (B l) u)
 
 pub has-linked : (A B : ℕ → ℕ) (nb : List ℕ) (u v m : ℕ) → u < length nb → has (getD (linked A B nb m) u 0) v ≡ (has (getD nb u 0) v || any (between A B u v) m)
 unfolding linked any
-has-linked A B nb u v zero h = none (has (getD nb u 0) v)
-  where
-    none : (p : Bool) → p ≡ (p || false)
-    none true = refl
-    none false = refl
+has-linked A B nb u v zero h = sym (or-false (has (getD nb u 0) v))
 has-linked A B nb u v (suc l) h =
     let e = length-linked A B nb l in
     let f = length-entered (linked A B nb l) (A l) (B l) in

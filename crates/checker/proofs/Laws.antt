@@ -8,7 +8,7 @@ use native.Mathlib.Numerals.{add-one}
 use native.Mathlib.Omega.{arith}
 use lib.Count.{ones}
 use lib.Dec.{eqb, leb}
-use lib.ListN.{length, getD, set, List·getD-eq-default}
+use lib.ListN.{getD, set}
 use borrow.Author.Tests.{eqb-true, eq-eqb, ne-eqb, not-true}
 use Rattle.rules.specs.Basics.{need, all}
 use Rattle.rules.specs.Demands.{Walk}
@@ -21,9 +21,6 @@ use Rattle.checker.specs.Graph.{entered}
 use Rattle.checker.specs.Topology.{backboneWord, normal, reachedWord, connectedBy, servedBy, allServed, numberBy}
 use Rattle.checker.proofs.Reached.{reached-one, reached-is}
 use Rattle.checker.proofs.Same.{both-low}
-
-pub past : (s : List ℕ) (i : ℕ) → length s ≤ i → 0 ≡ getD s i 0
-past s i h = sym (List·getD-eq-default s 0 h)
 
 -- ---- reach
 pub record Growing (nb : List ℕ) (bb root w d : ℕ) : Type 0 where

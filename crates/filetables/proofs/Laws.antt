@@ -1,7 +1,7 @@
 -- From a file's lists to its tables, and the entry.
 use mathlib.Core.Path.{_≡_, refl, sym, ap, ap₂, subst, _∙_}
-use mathlib.Core.List.{List, [], _∷_, _++_}
-use Prim.Native.Nat.{ℕ, zero, suc, _+_, _*_, _≤_, _<_}
+use mathlib.Core.List.{List, _++_, append-nil}
+use Prim.Native.Nat.{ℕ, _*_, _≤_}
 use native.Mathlib.Nat.{mul-le-mul}
 use native.Mathlib.Omega.{arith}
 use lib.Dec.{leb}
@@ -21,7 +21,7 @@ use Rattle.rules.specs.Answers.{tell, lengthTells}
 use Rattle.rules.specs.Entries.{Lists, lists, setWith, Promise, onAccept, tablesEntry}
 use Rattle.rules.specs.Demands.{AcceptedSet, WithinLimits}
 use Rattle.rules.proofs.Choices.{need-ok, refuse-zero, then-first, then-second}
-use Rattle.rules.proofs.Rows.{length-upTo, length-flat}
+use Rattle.rules.proofs.Rows.{length-upTo, length-flat, prefix-long}
 use Rattle.rules.proofs.Held.{net-held, homes-all}
 use Rattle.rules.proofs.Checked.{checked-set}
 use Rattle.rules.proofs.Lent.{bytes-long}
@@ -30,13 +30,9 @@ use Rattle.filetables.specs.Parts.{Exact, Wide, Held, tablesVerdict}
 
 -- ---- lists of exactly the right lengths hold just the set's
 
-append-none : (l : List ℕ) → l ++ [] ≡ l
-append-none [] = refl
-append-none (x ∷ l) = ap (λ (k : List ℕ). x ∷ k) (append-none l)
-
 laid-whole : (new old : List ℕ) → length old ≤ length new → laid new old ≡ new
 unfolding laid
-laid-whole new old h = ap (λ (l : List ℕ). new ++ l) (drop-of-length-le old h) ∙ append-none new
+laid-whole new old h = ap (λ (l : List ℕ). new ++ l) (drop-of-length-le old h) ∙ append-nil new
 
 module _ (s : List ℕ) (h : Network) (n : h ≡ headerOf s) (c : check s ≡ Accepted) where
   some : 1 ≤ h .k
@@ -110,9 +106,6 @@ module _ (s : List ℕ) (h : Network) (n : h ≡ headerOf s) (c : check s ≡ Ac
 
     pub entries-fit : (entries : ℕ) → entries ≡ h .k * rowWeights h → entries ≤ length r
     entries-fit entries e = omega (arith, rows-fit, x .rows)
-
-pub prefix-long : (n : ℕ) (l : List ℕ) → n ≤ length l → n ≡ length (take n l)
-prefix-long n l h = sym (length-take-le n l h)
 
 pub parts-exact : (s : List ℕ) (h : Network) (a b w v r : List ℕ) (entries : ℕ) → h ≡ headerOf s → check s ≡ Accepted → Wide (lists a b w v r) → entries ≡ h .k * rowWeights h → Exact h (lists (take (h .m) a) (take (h .m) b) (take (h .m) w) (take (h .n) v) (take entries r))
 parts-exact s h a b w v r entries n c x e =

@@ -3,23 +3,23 @@ use mathlib.Core.Path.{_≡_, refl, sym, ap, ap₂, subst, _∙_}
 use mathlib.Core.Logic.{_⊎_, inl, inr}
 use mathlib.Core.Bool.{Bool, true, false, not, _&&_, _||_}
 use mathlib.Core.List.{List}
-use Prim.Native.Nat.{ℕ, zero, suc, _+_, _*_, _≤_, _<_}
-use native.Mathlib.Numerals.{add-one}
+use Prim.Native.Nat.{ℕ, _+_, _≤_, _<_}
 use native.Mathlib.Omega.{arith}
 use lib.Dec.{eqb, ltb}
-use lib.ListN.{length, getD, List·getD-eq-default}
-use borrow.Author.Tests.{eq-eqb, ne-eqb, eqb-true, eqb-false, lt-ltb, le-ltb}
+use lib.ListN.{List·getD-eq-default}
+use borrow.Author.Tests.{eq-eqb, ne-eqb, eqb-true, eqb-false}
 use Rattle.rules.specs.declared.Network.{Network}
 use Rattle.rules.specs.declared.Failure.{Failure}
 use Rattle.rules.specs.declared.Failure.the-variants.{Nothing, Link, Node}
 use Rattle.rules.specs.Basics.{lowest}
 use Rattle.rules.specs.Limits.{homeRecords}
-use Rattle.rules.specs.File.{Set, headerOf, setOf, endA, endB, homeTopology}
+use Rattle.rules.specs.File.{headerOf, setOf, endA, endB, homeTopology}
 use Rattle.rules.specs.Isolation.{joins, linkBetween, neighbours, home}
 use Rattle.rules.specs.Forwarding.{faultOf, up}
 use Rattle.rules.proofs.Choices.{clash}
 use Rattle.rules.proofs.Numbers.{lowest-ext, lowest-is, lowest-one, lowest-none}
 use Rattle.rules.proofs.Rows.{length-upTo, getD-upTo}
+use Rattle.rules.proofs.Held.{net-held}
 use Rattle.forwarding.specs.Hop.{joinsAt, on}
 
 -- ---- tests
@@ -44,14 +44,10 @@ module _ (s : List ℕ) where
   joins-is u w l h =
       ap₂ (λ (a b : ℕ). (eqb a u && eqb b w) || (eqb a w && eqb b u)) (getD-upTo (endA s) (headerOf s .m) l 0 h) (getD-upTo (endB s) (headerOf s .m) l 0 h)
 
-  net-is : setOf s .net ≡ headerOf s
-  unfolding setOf
-  net-is = refl
-
   link-is : (u w : ℕ) → linkBetween (setOf s) u w ≡ lowest (joinsAt s u w) (headerOf s .m) (headerOf s .m)
   unfolding linkBetween
   link-is u w =
-      ap (λ (h : Network). lowest (λ l. joins (setOf s) l u w) (h .m) (h .m)) net-is
+      ap (λ (h : Network). lowest (λ l. joins (setOf s) l u w) (h .m) (h .m)) (net-held s)
       ∙ lowest-ext (λ l. joins (setOf s) l u w) (joinsAt s u w) (headerOf s .m) (headerOf s .m) (joins-is u w)
 
   pub joins-forth : (u w l a b : ℕ) (t : Bool) → a ≡ endA s l → b ≡ endB s l → t ≡ (eqb a u && eqb b w) → t ≡ true → true ≡ joinsAt s u w l
@@ -90,7 +86,7 @@ module _ (s : List ℕ) where
 
   pub near-is : (u w l : ℕ) (h : Network) → h ≡ headerOf s → l ≡ linkBetween (setOf s) u w → ltb l (h .m) ≡ neighbours (setOf s) u w
   unfolding neighbours
-  near-is u w l h n e = ap₂ ltb e (ap (λ (k : Network). k .m) (n ∙ sym net-is))
+  near-is u w l h n e = ap₂ ltb e (ap (λ (k : Network). k .m) (n ∙ sym (net-held s)))
 
   -- ---- homes
 

@@ -1,7 +1,7 @@
 -- The entry `run`.
-use mathlib.Core.Path.{_≡_, refl, sym, ap, ap₂, subst, _∙_}
+use mathlib.Core.Path.{_≡_, refl, sym, ap, ap₂, _∙_}
 use mathlib.Core.List.{List, _++_}
-use Prim.Native.Nat.{ℕ, _+_, _-_, _*_, _≤_, _<_}
+use Prim.Native.Nat.{ℕ, _≤_, _<_}
 use native.Mathlib.Omega.{arith}
 use lib.Dec.{leb}
 use lib.ListN.{length, take, drop}
@@ -16,20 +16,21 @@ use Rattle.rules.specs.declared.Verdict.{Verdict}
 use Rattle.rules.specs.declared.Verdict.the-variants.{Accepted, Refused}
 use Rattle.rules.specs.Basics.{need, laid}
 use Rattle.rules.specs.Limits.{tablesLength, mostHops, trailRoom}
-use Rattle.rules.specs.File.{Set, headerOf, setOf}
+use Rattle.rules.specs.File.{headerOf, setOf}
 use Rattle.rules.specs.Distance.{tableBytes}
-use Rattle.rules.specs.Forwarding.{Run, faultOf, up, packet, tablesOf, lentTables, hops, trail, run}
+use Rattle.rules.specs.Forwarding.{Run, faultOf, packet, tablesOf, lentTables, trail, run}
 use Rattle.rules.specs.Judgement.{refuse, andThen, check, needPacket, needSource, needRoom}
 use Rattle.rules.specs.Report.{runUnder}
 use Rattle.rules.specs.Answers.{tell, journeyValues, runTells}
-use Rattle.rules.specs.Entries.{Promise, onAccept, RunInput, RunLent, runOf, runValues, runEntry}
+use Rattle.rules.specs.Entries.{Promise, onAccept, RunLent, runOf, runValues, runEntry}
 use Rattle.rules.specs.Demands.{WithinLimits}
 use Rattle.rules.proofs.Choices.{need-ok, refuse-zero, then-first, then-second}
+use Rattle.rules.proofs.Rows.{prefix-long}
 use Rattle.rules.proofs.Held.{net-held}
 use Rattle.rules.proofs.Checked.{checked-set}
 use Rattle.rules.proofs.Lent.{bytes-long, lent-agree, run-same}
 use Rattle.rules.proofs.Runs.{Within}
-use Rattle.forwarding.specs.Hop.{on, tablesAt}
+use Rattle.forwarding.specs.Hop.{on}
 use Rattle.forwarding.specs.Trip.{runAt, journeyOf, RunsAs, runInput, runLent, runVerdict, Ready, Ran}
 
 -- ---- the run by a set's own tables
@@ -55,9 +56,6 @@ nodes-low s start tables nodes h n R = rw n (limits s (R .set) .nodes .0)
 
 pub nodes-high : (s : List ℕ) (start : Packet) (tables nodes : List ℕ) (h : Network) → h ≡ headerOf s → Ready s start tables nodes → h .n ≤ 32
 nodes-high s start tables nodes h n R = rw n (limits s (R .set) .nodes .1)
-
-pub prefix-long : (n : ℕ) (l : List ℕ) → n ≤ length l → n ≡ length (take n l)
-prefix-long n l h = sym (length-take-le n l h)
 
 pub tables-fit : (s : List ℕ) (start : Packet) (tables nodes : List ℕ) (h : Network) (bytes : ℕ) → bytes ≡ tablesLength h → h ≡ headerOf s → Ready s start tables nodes → bytes ≤ length tables
 tables-fit s start tables nodes h bytes e n R = rw (e, n) (R .long)

@@ -1,11 +1,9 @@
 -- The run as the code makes it, hop by hop: what was visited so far, and the run from where the packet is.
-use mathlib.Core.Path.{_≡_, refl, sym, ap, ap₂, subst, _∙_}
-use mathlib.Core.Bool.{Bool, true, false}
-use mathlib.Core.List.{List, [], _∷_, _++_, append-assoc}
+use mathlib.Core.Path.{_≡_, refl, sym, ap, ap₂, _∙_}
+use mathlib.Core.List.{List, [], _∷_, _++_, append-nil, append-assoc}
 use Prim.Native.Nat.{ℕ, zero, suc, _+_, _-_, _≤_, _<_}
-use native.Mathlib.Numerals.{add-one}
 use native.Mathlib.Omega.{arith}
-use lib.ListN.{length, drop, set, length-append, length-set}
+use lib.ListN.{length, set, length-append, length-set}
 use lib.Seq.{set-out}
 use Rattle.rules.specs.declared.Packet.{Packet}
 use Rattle.rules.specs.declared.Failure.{Failure}
@@ -146,7 +144,7 @@ module _ (s tables : List ℕ) (f : Failure) where
       → runAt s tables f (most - count) p ≡ stop q o → j ≡ record { outcome = o; hops = count; topology = q .topology; kind = kind } → RunsAs s tables f start most t₀ j t
   unfolding stop journeyOf hops trail
   stopped start p q most count kind t₀ t o j T R g =
-      let all : runAt s tables f most start .visited ≡ T .visited = T .nodes ∙ ap (λ (x : Run). T .visited ++ x .visited) R ∙ append-none (T .visited) in
+      let all : runAt s tables f most start .visited ≡ T .visited = T .nodes ∙ ap (λ (x : Run). T .visited ++ x .visited) R ∙ append-nil (T .visited) in
       let a : o ≡ runAt s tables f most start .outcome = sym (T .outcome ∙ ap (λ (x : Run). x .outcome) R) in
       let b : count ≡ length (runAt s tables f most start .visited) = sym (ap length all ∙ T .counted) in
       let c : q .topology ≡ runAt s tables f most start .topology = sym (T .topology ∙ ap (λ (x : Run). x .topology) R) in
@@ -155,10 +153,6 @@ module _ (s tables : List ℕ) (f : Failure) where
         answer = g ∙ (λ i. record { outcome = a i; hops = b i; topology = c i; kind = d i });
         written = T .written ∙ ap (λ (l : List ℕ). laid (start .place ∷ l) t₀) (sym all);
       }
-    where
-      append-none : (l : List ℕ) → l ++ [] ≡ l
-      append-none [] = refl
-      append-none (x ∷ l) = ap (λ (k : List ℕ). x ∷ k) (append-none l)
 
   pub travel-delivered : (start p q : Packet) (most count : ℕ) (kind : Kind) (t₀ t : List ℕ) (st : Step) (j : Journey) → Travelling start most t₀ p count kind t → st ≡ stepAt s tables f p → st ≡ Delivered q
       → j ≡ record { outcome = ended.Delivered; hops = count; topology = q .topology; kind = kind } → RunsAs s tables f start most t₀ j t

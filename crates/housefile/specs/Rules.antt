@@ -37,6 +37,15 @@ rowRule i x y topology rest = need (eqb x 0x42) 2 (need (eqb y 0x57) 2 (need (eq
 unfoldable pub weightRule : ℕ → ℕ → ℕ → ℕ → ℕ → ℕ
 weightRule wmax i homeA homeB w = need (weightFits (classBy (eqb homeA i) (eqb homeB i)) wmax w) 5 0
 
+-- lists of these lengths, against an entry for each link, `nodes` homes and `entries` weights of rows
+unfoldable pub listsRule : ℕ → Network → ℕ → ℕ → ℕ → ℕ → ℕ → ℕ → ℕ → ℕ
+listsRule number h a b weights homes rows nodes entries =
+    need (leb (h .m) a) number
+    (need (leb (h .m) b) number
+    (need (leb (h .m) weights) number
+    (need (leb nodes homes) number
+    (need (leb entries rows) number 0))))
+
 -- ---- verdicts by number and place, and the records after the links
 
 -- record i's refusal number, at its place

@@ -6,7 +6,7 @@ ghost use Prim.Native.Nat.{_+_, _*_};
 ghost use lib.Dec.{eqb};
 ghost use Rattle.rules.specs.Basics.{need};
 ghost use Rattle.rules.specs.Limits.{needCounts};
-ghost use Rattle.housefile.specs.Rules.{headerRule, linkRule, homeRule, rowRule, weightRule};
+ghost use Rattle.housefile.specs.Rules.{headerRule, linkRule, homeRule, rowRule, weightRule, listsRule};
 
 // The counts within their limits, else 3; then what the rest says.
 pub fn counts(net: Network, rest: u8) -> u8
@@ -156,6 +156,39 @@ pub fn weight(wmax: u16, i: usize, p: u8, q: u8, weight: u16) -> u8
     }
     if wmax < weight {
         return 5;
+    }
+    0
+}
+
+// Lists of these lengths hold what the counts need, else this number: an entry for each link in the first three, `nodes` homes and
+// `entries` weights of rows.
+pub fn lists(
+    number: u8,
+    net: Network,
+    a: usize,
+    b: usize,
+    weights: usize,
+    homes: usize,
+    rows: usize,
+    nodes: usize,
+    entries: usize,
+) -> u8
+    ensures { λ r. ⌜ r ≡ listsRule number net a b weights homes rows nodes entries ⌝ }
+{
+    if a < net.m as usize {
+        return number;
+    }
+    if b < net.m as usize {
+        return number;
+    }
+    if weights < net.m as usize {
+        return number;
+    }
+    if homes < nodes {
+        return number;
+    }
+    if rows < entries {
+        return number;
     }
     0
 }

@@ -15,11 +15,12 @@ use Rattle.rules.specs.Judgement.{refuse, judge}
 use Rattle.rules.specs.Answers.{tell, readTells}
 use Rattle.rules.specs.Entries.{Lists, lists, Promise, onAccept, needLists, listsWith, readEntry}
 use Rattle.rules.proofs.Choices.{need-ok, refuse-no, refuse-ok, refuse-zero, then-second}
-use Rattle.reader.specs.Reading.{rowOf, listsOf, Room, listsNumber, roomVerdict, readVerdict}
+use Rattle.housefile.specs.Rules.{listsRule}
+use Rattle.reader.specs.Reading.{rowOf, listsOf, Room, roomVerdict, readVerdict}
 
 -- ---- the lists' lengths
 
-module _ (h : Network) (a b w hs rs nodes entries number : ℕ) (e : number ≡ listsNumber 14 h a b w hs rs nodes entries) (n : nodes ≡ homeRecords h)
+module _ (h : Network) (a b w hs rs nodes entries number : ℕ) (e : number ≡ listsRule 14 h a b w hs rs nodes entries) (n : nodes ≡ homeRecords h)
     (k : entries ≡ h .k * rowWeights h) where
   room-is : refuse number 0 ≡ roomVerdict h a b w hs rs
   unfolding roomVerdict
@@ -31,9 +32,9 @@ module _ (h : Network) (a b w hs rs nodes entries number : ℕ) (e : number ≡ 
   pub room-enough : number ≡ 0 → Accepted ≡ roomVerdict h a b w hs rs
   room-enough t = refuse-ok number 0 t ∙ room-is
 
-room-code : (h : Network) (a b w hs rs nodes entries : ℕ) → listsNumber 14 h a b w hs rs nodes entries ≡ 0
+room-code : (h : Network) (a b w hs rs nodes entries : ℕ) → listsRule 14 h a b w hs rs nodes entries ≡ 0
     → (h .m ≤ a) × (h .m ≤ b) × (h .m ≤ w) × (nodes ≤ hs) × (entries ≤ rs)
-unfolding listsNumber
+unfolding listsRule
 room-code h a b w hs rs nodes entries e =
     let p1 = need-ok _ _ _ e in
     let p2 = need-ok _ _ _ (p1 .1) in
@@ -57,7 +58,7 @@ module _ (s a b w hs rs : List ℕ) (h : Network) (v : Verdict)
     (p : v ≡ readVerdict s h (length a) (length b) (length w) (length hs) (length rs)) (q : h ≡ headerOf s) where
   -- the published verdict
   verdict-is : v ≡ readEntry .verdict s (lists a b w hs rs)
-  unfolding readVerdict roomVerdict listsNumber readEntry needLists
+  unfolding readVerdict roomVerdict listsRule readEntry needLists
   verdict-is = p ∙ rw q
 
   -- an accepted call has room

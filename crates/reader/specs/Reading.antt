@@ -1,15 +1,15 @@
 -- What reading writes, and when it refuses, over the header's counts and the lists' lengths. The published entry says the same of a set.
 use mathlib.Core.List.{List}
 use Prim.Native.Nat.{ℕ, _+_, _*_, _≤_}
-use lib.Dec.{leb}
 use lib.ListN.{length, getD}
 use Rattle.rules.specs.declared.Network.{Network}
 use Rattle.rules.specs.declared.Verdict.{Verdict}
-use Rattle.rules.specs.Basics.{need, upTo, flat, laid}
+use Rattle.rules.specs.Basics.{upTo, flat, laid}
 use Rattle.rules.specs.Limits.{homeRecords, rowWeights}
 use Rattle.rules.specs.File.{two, endA, endB, linkWeight, homeTopology, rowWeight}
 use Rattle.rules.specs.Judgement.{refuse, andThen, judge}
 use Rattle.rules.specs.Entries.{Lists, lists}
+use Rattle.housefile.specs.Rules.{listsRule}
 
 -- the bytes at equal distances, and the numbers of two bytes
 unfoldable pub byteAt : List ℕ → ℕ → ℕ → ℕ → ℕ
@@ -37,16 +37,8 @@ pub record Room (h : Network) (d : Lists) : Type 0 where
   pub homes : homeRecords h ≤ length (d .homes)
   pub rows : h .k * rowWeights h ≤ length (d .rows)
 
-unfoldable pub listsNumber : ℕ → Network → ℕ → ℕ → ℕ → ℕ → ℕ → ℕ → ℕ → ℕ
-listsNumber number h a b weights homes rows nodes entries =
-    need (leb (h .m) a) number
-    (need (leb (h .m) b) number
-    (need (leb (h .m) weights) number
-    (need (leb nodes homes) number
-    (need (leb entries rows) number 0))))
-
 unfoldable pub roomVerdict : Network → ℕ → ℕ → ℕ → ℕ → ℕ → Verdict
-roomVerdict h a b weights homes rows = refuse (listsNumber 14 h a b weights homes rows (homeRecords h) (h .k * rowWeights h)) 0
+roomVerdict h a b weights homes rows = refuse (listsRule 14 h a b weights homes rows (homeRecords h) (h .k * rowWeights h)) 0
 
 unfoldable pub readVerdict : List ℕ → Network → ℕ → ℕ → ℕ → ℕ → ℕ → Verdict
 readVerdict s h a b weights homes rows = andThen (judge s) (roomVerdict h a b weights homes rows)

@@ -2,6 +2,7 @@
 // file's fields at the front of each list, or the refusal by number and place with every list as it came. Entries past the counts
 // stay as they came. The functions that fill one list each may be called where their lists are long enough.
 use housefile::byte;
+use housefile::rule;
 use housefile::two;
 use rules::Network;
 use rules::ReadAnswer;
@@ -13,7 +14,7 @@ ghost use Rattle.rules.specs.Basics.{upTo, flat, laid};
 ghost use Rattle.rules.specs.Limits.{rowWeights};
 ghost use Rattle.rules.specs.File.{endA, endB, linkWeight, homeTopology, rowWeight};
 ghost use Rattle.rules.specs.Entries.{lists, Promise, readEntry};
-ghost use Rattle.reader.specs.Reading.{byteAt, twoAt, rowOf, listsNumber, roomVerdict, readVerdict, Room, listsOf};
+ghost use Rattle.reader.specs.Reading.{byteAt, twoAt, rowOf, roomVerdict, readVerdict, Room, listsOf};
 
 // ---- one list
 
@@ -136,39 +137,6 @@ pub fn lists_into(
     rows_into(file, net, rows);
 }
 
-// This refusal number where a list of these lengths is under what the counts need, or 0; `nodes` and `entries` are what the
-// homes and the rows need.
-pub fn lists_number(
-    number: u8,
-    net: Network,
-    a: usize,
-    b: usize,
-    weights: usize,
-    homes: usize,
-    rows: usize,
-    nodes: usize,
-    entries: usize,
-) -> u8
-    ensures { λ r. ⌜ r ≡ listsNumber number net a b weights homes rows nodes entries ⌝ }
-{
-    if a < net.m as usize {
-        return number;
-    }
-    if b < net.m as usize {
-        return number;
-    }
-    if weights < net.m as usize {
-        return number;
-    }
-    if homes < nodes {
-        return number;
-    }
-    if rows < entries {
-        return number;
-    }
-    0
-}
-
 // How many weights the rows have together.
 pub fn row_entries(net: Network) -> usize
     ensures { λ r. ⌜ r ≡ net .k * rowWeights net ⌝ }
@@ -181,7 +149,7 @@ fn room(net: Network, a: usize, b: usize, weights: usize, homes: usize, rows: us
     ensures { λ r. ⌜ r ≡ roomVerdict net a b weights homes rows ⌝ }
 {
     let nodes = housefile::home_records(net);
-    let number = lists_number(14, net, a, b, weights, homes, rows, nodes, row_entries(net));
+    let number = rule::lists(14, net, a, b, weights, homes, rows, nodes, row_entries(net));
     if number != 0 {
         return Verdict::Refused { number, place: 0 };
     }

@@ -3,10 +3,11 @@
 use mathlib.Core.Path.{_≡_, refl, sym, ap, ap₂, subst, _∙_}
 use mathlib.Core.Bool.{Bool, true, false}
 use mathlib.Core.Logic.{_⊎_, inl, inr}
-use mathlib.Core.List.{List, [], _∷_, _++_, append-nil, append-assoc}
+use mathlib.Core.List.{List, [], _++_, append-nil, append-assoc}
 use Prim.Native.Nat.{ℕ, zero, suc, _+_, _-_, _*_, _/_, _%_, _≤_, _<_}
-use native.Mathlib.Nat.{add-zero, add-suc, zero-mul, suc-mul, mul-le-mul-right, mod-lt, mod-eq-of-lt, div-eq-of-lt, mod-add-div', mul-add-div-right, mul-add-mod-self-right, div-lt-iff-lt-mul}
+use native.Mathlib.Nat.{add-zero, add-suc, zero-mul, suc-mul, mul-le-mul-right, mod-lt, mod-add-div', div-lt-iff-lt-mul}
 use native.Mathlib.Omega.{arith}
+use lib.Arith.{digits-div, digits-mod}
 use lib.Dec.{eqb, ltb}
 use lib.ListN.{getD}
 use borrow.Author.Tests.{eq-eqb, ne-eqb, lt-ltb, le-ltb, ltb-true, ltb-false}
@@ -18,7 +19,6 @@ use Rattle.rules.specs.Demands.{AcceptedSet, LineIsRun}
 use Rattle.rules.proofs.Choices.{if-yes, if-no}
 use Rattle.rules.proofs.Rows.{flat-ext}
 use Rattle.rules.proofs.Lines.{lines-are-runs}
-use Rattle.report.specs.Lines.{lineFor, nodeLines}
 
 -- ---- the ordered pairs of different nodes, numbered by node, then destination
 
@@ -124,19 +124,13 @@ flat-add f a (suc b) =
     rw add-suc (ap (λ (l : List ℕ). l ++ f (a + b)) (flat-add f a b) ∙ append-assoc (flat f a) (flat (λ x. f (a + x)) b) (f (a + b)))
 
 -- entry j of part u of parts that are w long has the number u × w + j
-flat-flat : (h : ℕ → ℕ → List ℕ) (w n : ℕ) → 0 < w → flat (λ u. flat (h u) w) n ≡ flat (λ x. h (x / w) (x % w)) (n * w)
+flat-flat : (h : ℕ → ℕ → List ℕ) (w n : ℕ) → flat (λ u. flat (h u) w) n ≡ flat (λ x. h (x / w) (x % w)) (n * w)
 unfolding flat
-flat-flat h w zero l = rw zero-mul
-flat-flat h w (suc n) l =
-    ap₂ _++_ (flat-flat h w n l) (flat-ext (h n) (λ x. h ((n * w + x) / w) ((n * w + x) % w)) w (λ x q. sym (ap₂ h (part x q) (entry x q))))
+flat-flat h w zero = rw zero-mul
+flat-flat h w (suc n) =
+    ap₂ _++_ (flat-flat h w n) (flat-ext (h n) (λ x. h ((n * w + x) / w) ((n * w + x) % w)) w (λ x q. sym (ap₂ h (digits-div n q) (digits-mod n q))))
     ∙ sym (flat-add (λ x. h (x / w) (x % w)) (n * w) w)
     ∙ ap (flat (λ x. h (x / w) (x % w))) (sym (suc-mul n w))
-  where
-    part : (x : ℕ) → x < w → (n * w + x) / w ≡ n
-    part x q = mul-add-div-right l n x ∙ ap (λ (y : ℕ). n + y) (div-eq-of-lt q) ∙ add-zero n
-
-    entry : (x : ℕ) → x < w → (n * w + x) % w ≡ x
-    entry x q = mul-add-mod-self-right n w x ∙ mod-eq-of-lt q
 
 -- ---- the theorem
 
@@ -158,8 +152,8 @@ module _ (S : Set) (A : AcceptedSet S) where
   unfolding nodeAt endAt
   each-of u t lu lt ne =
       let j = other-of size u t lu lt ne in
-      let a : (u * (size - 1) + j .0) / (size - 1) ≡ u = mul-add-div-right some u (j .0) ∙ ap (λ (y : ℕ). u + y) (div-eq-of-lt (j .1)) ∙ add-zero u in
-      let b : (u * (size - 1) + j .0) % (size - 1) ≡ j .0 = mul-add-mod-self-right u (size - 1) (j .0) ∙ mod-eq-of-lt (j .1) in
+      let a : (u * (size - 1) + j .0) / (size - 1) ≡ u = digits-div u (j .1) in
+      let b : (u * (size - 1) + j .0) % (size - 1) ≡ j .0 = digits-mod u (j .1) in
       record {
         number = u * (size - 1) + j .0;
         low = omega (arith, j .1, suc-mul u (size - 1), mul-le-mul-right {m = suc u} {n = size} (size - 1) lu);
@@ -186,7 +180,7 @@ module _ (S : Set) (A : AcceptedSet S) where
   unfolding detectionLines nodeAt endAt but
   lines-of =
       flat-ext (λ u. flat (but (detectionLine S u) u) size) (λ u. flat (λ j. detectionLine S u (other u j)) (size - 1)) size (λ u l. all-but (detectionLine S u) u size l)
-      ∙ flat-flat (λ u j. detectionLine S u (other u j)) (size - 1) size some
+      ∙ flat-flat (λ u j. detectionLine S u (other u j)) (size - 1) size
 
 pub coverage : (S : Set) → AcceptedSet S → Coverage S
 coverage S A =

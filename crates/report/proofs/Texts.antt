@@ -6,11 +6,10 @@ use native.Mathlib.Numerals.{add-one}
 use native.Mathlib.Omega.{arith}
 use lib.ListN.{length, getD, take, drop, set, length-append, length-set}
 use lib.Seq.{sets, set-out, sets-eq, take-suc, take-all}
-use Rattle.rules.specs.declared.Kind.{Kind}
-use Rattle.rules.specs.declared.Kind.the-variants as change
 use Rattle.rules.specs.Basics.{laid}
-use Rattle.rules.specs.Report.{digits, decimal, space, letter}
+use Rattle.rules.specs.Report.{digits, decimal, space}
 use Rattle.rules.proofs.Fits.{digits-one, digits-more}
+use Rattle.rules.proofs.ChangeKinds.{letter-none, letter-t, letter-s, letter-d}
 use Rattle.report.specs.Text.{written, Wrote, field}
 
 -- ---- one after the other
@@ -106,23 +105,5 @@ labelled-of old mid new label at p r x h v w = wrote-then old mid new at p r (le
 pub field-of : (old mid new : List ℕ) (at p r x : ℕ) → Wrote old at (decimal x) 20 p mid → Wrote mid p (32 ∷ []) 1 r new → Wrote old at (field x) 21 r new
 unfolding field
 field-of old mid new at p r x v w = wrote-then old mid new at p r 20 1 21 (decimal x) space v w (omega arith)
-
--- ---- a letter
-
-pub letter-none : (k : Kind) → k ≡ change.Unchanged → 45 ≡ letter k
-unfolding letter
-letter-none k e = rw e
-
-pub letter-t : (k : Kind) → k ≡ change.T → 84 ≡ letter k
-unfolding letter
-letter-t k e = rw e
-
-pub letter-s : (k : Kind) → k ≡ change.S → 83 ≡ letter k
-unfolding letter
-letter-s k e = rw e
-
-pub letter-d : (k : Kind) → k ≡ change.D → 68 ≡ letter k
-unfolding letter
-letter-d k e = rw e
 
 pub ruleset texts = (wrote-in, wrote-out, copied-none, copied-more, copied-all, one-digit, last-digit, more-digits, number-of, labelled-of, field-of, letter-none, letter-t, letter-s, letter-d)

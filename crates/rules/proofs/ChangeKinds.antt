@@ -1,7 +1,6 @@
 -- The kind of a change of topology, told by the destination and the homes: T exactly where the next hop that is down is not the destination; where it is,
 -- S exactly where place and next hop share a home, and D where they do not.
 use mathlib.Core.Path.{_≡_, refl, sym, ap, subst, _∙_}
-use mathlib.Core.Logic.{_↔_}
 use mathlib.Core.Bool.{Bool, true, false}
 use Prim.Native.Nat.{ℕ}
 use native.Mathlib.Omega.{arith}
@@ -17,6 +16,7 @@ use Rattle.rules.specs.File.{Set}
 use Rattle.rules.specs.Isolation.{home}
 use Rattle.rules.specs.Distance.{nextHop}
 use Rattle.rules.specs.Forwarding.{tablesOf, step}
+use Rattle.rules.specs.Report.{letter}
 use Rattle.rules.specs.Demands.{AcceptedSet, KindIs}
 use Rattle.rules.proofs.Routing.{usable-neighbours, straight, last-hop, two-homes}
 use Rattle.rules.proofs.Steps.{Detects, View, there, plain, stuck, other, other-down, around, around-down, view}
@@ -92,3 +92,21 @@ module _ (S : Set) (A : AcceptedSet S) (on : ℕ → ℕ → Bool) (p : Packet) 
   pub kinds : (q : Packet) (kind : Kind) → step S (tablesOf S) on p ≡ Moved q kind → (q .topology ≡ p .topology → ⊥)
       → KindIs S p (nextHop S (p .topology) (p .place) (p .destination)) q kind
   kinds q kind e = subst (λ (s : Step). Told S p s) e (told (step S (tablesOf S) on p) (view S on p))
+
+-- ---- the letter of a kind, as a match on the kind gives it
+
+pub letter-none : (k : Kind) → k ≡ change.Unchanged → 45 ≡ letter k
+unfolding letter
+letter-none k e = rw e
+
+pub letter-t : (k : Kind) → k ≡ change.T → 84 ≡ letter k
+unfolding letter
+letter-t k e = rw e
+
+pub letter-s : (k : Kind) → k ≡ change.S → 83 ≡ letter k
+unfolding letter
+letter-s k e = rw e
+
+pub letter-d : (k : Kind) → k ≡ change.D → 68 ≡ letter k
+unfolding letter
+letter-d k e = rw e

@@ -1,13 +1,13 @@
 -- Demand 3: under one failed link, or failed nodes that share one home, a packet whose source and destination are up is delivered; one for a failed node is dropped.
 use mathlib.Core.Path.{_≡_, refl, sym, ap, _∙_}
 use mathlib.Core.Logic.{_⊎_, inl, inr}
-use mathlib.Core.Bool.{Bool, true, false, not, _||_, true≢false, false≢true}
+use mathlib.Core.Bool.{Bool, true, false, _||_, true≢false, false≢true}
 use mathlib.Core.List.{List, [], _∷_}
-use Prim.Native.Nat.{ℕ, zero, suc, _-_, _≤_, _<_}
+use Prim.Native.Nat.{ℕ, zero, suc, _≤_, _<_}
 use native.Mathlib.Omega.{arith}
 use lib.Dec.{eqb}
 use lib.ListN.{getD}
-use borrow.Author.Tests.{eqb-true, eqb-false, not-true}
+use borrow.Author.Tests.{eqb-true, eqb-false, not-true, not-false}
 use Rattle.rules.specs.declared.Packet.{Packet}
 use Rattle.rules.specs.declared.Kind.{Kind}
 use Rattle.rules.specs.declared.Step.{Step}
@@ -128,11 +128,7 @@ module _ (S : Set) (A : AcceptedSet S) (f : ℕ → Bool) (i : ℕ) (one : (v : 
 module _ (S : Set) (l u v : ℕ) (e : neighbours S u v ≡ true) where
   link-down : up S (link l) u v ≡ false → Ends S l u v
   unfolding up
-  link-down d = rw (eqb-true (linkBetween S u v) l (is (eqb (linkBetween S u v) l) d)) at (link-ends S u v e)
-    where
-      is : (b : Bool) → not b ≡ false → b ≡ true
-      is true q = refl
-      is false q = absurd (true≢false q)
+  link-down d = rw (eqb-true (linkBetween S u v) l (not-false (eqb (linkBetween S u v) l) d)) at (link-ends S u v e)
 
 -- z is an end of link l
 abbrev pub EndOf : Set → ℕ → ℕ → Type 0

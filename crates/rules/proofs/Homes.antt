@@ -4,13 +4,12 @@ use mathlib.Core.Bool.{true, false, not, _&&_}
 use Prim.Native.Nat.{ℕ, _≤_, _<_}
 use native.Mathlib.Omega.{arith}
 use lib.Dec.{eqb, ltb, leb}
-use borrow.Author.Tests.{eqb-true, eq-eqb, ne-eqb, ltb-true, lt-ltb, le-leb, not-true}
-use Rattle.rules.specs.Basics.{need}
-use Rattle.rules.specs.Limits.{homeRecords}
+use borrow.Author.Tests.{eqb-true, eq-eqb, ltb-true, lt-ltb, le-leb, not-true}
 use Rattle.rules.specs.File.{Set}
 use Rattle.rules.specs.Isolation.{home, isolated, backbone, neighbours}
 use Rattle.rules.specs.Demands.{AcceptedSet, Two}
 use Rattle.rules.proofs.Choices.{and-of, and-left, and-right, false-of}
+use Rattle.rules.proofs.Held.{homes-all}
 
 module _ (S : Set) (i v : ℕ) where
   pub isolated-home : isolated S i v ≡ true → home S v ≡ i
@@ -24,13 +23,13 @@ module _ (S : Set) (i v : ℕ) where
   pub away : (home S v ≡ i → ⊥) → isolated S i v ≡ false
   away h = false-of (isolated S i v) (λ e. h (isolated-home e))
 
-  pub backbone-below : backbone S i v ≡ true → v < S .net .n
+  pub backbone-node : backbone S i v ≡ true → v < S .net .n
   unfolding backbone
-  backbone-below e = ltb-true v (S .net .n) (and-left (ltb v (S .net .n)) (not (isolated S i v)) e)
+  backbone-node e = ltb-true v (S .net .n) (and-left (ltb v (S .net .n)) (not (isolated S i v)) e)
 
-  pub backbone-not : backbone S i v ≡ true → isolated S i v ≡ false
+  pub backbone-free : backbone S i v ≡ true → isolated S i v ≡ false
   unfolding backbone
-  backbone-not e = not-true (isolated S i v) (and-right (ltb v (S .net .n)) (not (isolated S i v)) e)
+  backbone-free e = not-true (isolated S i v) (and-right (ltb v (S .net .n)) (not (isolated S i v)) e)
 
   pub backbone-of : v < S .net .n → isolated S i v ≡ false → backbone S i v ≡ true
   unfolding backbone
@@ -43,15 +42,11 @@ pub record Outlet (S : Set) (i v w : ℕ) : Type 0 where
   pub free : isolated S i w ≡ false
 
 module _ (S : Set) (A : AcceptedSet S) where
-  homes-all : homeRecords (S .net) ≡ S .net .n
-  unfolding homeRecords need
-  homes-all = let h = A .topologies in rw (ne-eqb (S .net .k) 0 (omega arith))
-
   pub home-low : (v : ℕ) → v < S .net .n → 1 ≤ home S v
-  home-low v l = A .rules .homes v (omega (arith, homes-all)) .0
+  home-low v l = A .rules .homes v (omega (arith, homes-all (S .net) (A .topologies))) .0
 
   pub home-high : (v : ℕ) → v < S .net .n → home S v ≤ S .net .k
-  home-high v l = A .rules .homes v (omega (arith, homes-all)) .1
+  home-high v l = A .rules .homes v (omega (arith, homes-all (S .net) (A .topologies))) .1
 
   -- each node is isolated in its home
   pub at-home : (v : ℕ) → v < S .net .n → isolated S (home S v) v ≡ true
@@ -63,7 +58,7 @@ module _ (S : Set) (A : AcceptedSet S) where
   outlet : (i v w : ℕ) → (neighbours S v w && backbone S i w) ≡ true → Outlet S i v w
   outlet i v w e =
       let b = and-right (neighbours S v w) (backbone S i w) e in
-      record { joined = and-left (neighbours S v w) (backbone S i w) e; node = backbone-below S i w b; free = backbone-not S i w b }
+      record { joined = and-left (neighbours S v w) (backbone S i w) e; node = backbone-node S i w b; free = backbone-free S i w b }
 
   -- "Each isolated node has at least two restricted links"
   pub outlets : (v : ℕ) → v < S .net .n → (x y : ℕ) × (x ≡ y → ⊥) × Outlet S (home S v) v x × Outlet S (home S v) v y

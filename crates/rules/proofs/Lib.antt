@@ -21,6 +21,7 @@ pub mod Reach
 pub mod Transit
 pub mod NextHops
 pub mod Walks
+pub mod Spreading
 pub mod Connected
 pub mod Sound
 pub mod Removal

@@ -146,7 +146,7 @@ of-two p n below t =
 
 -- ---- lowest
 
-none-of : (p : ℕ → Bool) (n : ℕ) → any p n ≡ false → (x : ℕ) → x < n → p x ≡ false
+pub none-of : (p : ℕ → Bool) (n : ℕ) → any p n ≡ false → (x : ℕ) → x < n → p x ≡ false
 none-of p n q x l = false-of (p x) (λ e. true≢false (sym (any-of p n x l e) ∙ q))
 
 pub lowest-none : (p : ℕ → Bool) (n other : ℕ) → ((x : ℕ) → x < n → p x ≡ false) → lowest p n other ≡ other

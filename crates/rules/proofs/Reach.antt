@@ -11,7 +11,7 @@ use Rattle.rules.specs.Distance.{Path, here, over, far, distance}
 use Rattle.rules.specs.Demands.{AcceptedSet, Walk, stay, go, LeastDistances}
 use Rattle.rules.proofs.Choices.{and-left, and-right}
 use Rattle.rules.proofs.Links.{neighbours-turned, neighbours-below, none-isolated, hop-neighbours, hop-out, hop-into, hop-normal, hop-light, usable-hop, hop-usable, restricted-heavy, restricted-bound}
-use Rattle.rules.proofs.Homes.{backbone-of, backbone-not, home-low, home-high, outlet-of}
+use Rattle.rules.proofs.Homes.{backbone-of, backbone-free, home-low, home-high, outlet-of}
 use Rattle.rules.proofs.Distances.{distance-found, distance-light, distance-least}
 
 -- a path, whatever its total
@@ -47,7 +47,7 @@ module _ (S : Set) (A : AcceptedSet S) where
   pub normal-weight : (i u w : ℕ) → i ≤ S .net .k → normalHop S i u w ≡ true → (1 ≤ hopWeight S i u w) × (hopWeight S i u w ≤ S .net .wmax)
   normal-weight i u w hi e =
       let q = normal-link S i u w e in
-      hop-normal S (A .rules) i u w hi (q .joined) (backbone-not S i u (q .one)) (backbone-not S i w (q .other))
+      hop-normal S (A .rules) i u w hi (q .joined) (backbone-free S i u (q .one)) (backbone-free S i w (q .other))
 
   module _ (i : ℕ) (lo : 1 ≤ i) (hi : i ≤ S .net .k) (t : ℕ) (lt : t < S .net .n) where
     along : (u w : ℕ) → Walk (normalHop S i) u w → Joined S i t w → Joined S i t u

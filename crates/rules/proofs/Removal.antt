@@ -2,56 +2,25 @@
 -- accepted set's graph can be.
 use mathlib.Core.Path.{_≡_, refl, sym, ap, _∙_}
 use mathlib.Core.Bool.{Bool, true, false, not, _&&_, false≢true}
-use mathlib.Core.Logic.{_↔_, _⊎_, inl, inr}
+use mathlib.Core.Logic.{_↔_}
 use Prim.Native.Nat.{ℕ, zero, suc, _≤_, _<_}
 use native.Mathlib.Omega.{arith}
-use lib.Dec.{eqb, leb}
+use lib.Dec.{eqb}
 use lib.ListN.{getD, set, replicate, length-replicate}
 use lib.Seq.{getD-set-same, getD-set-other}
-use borrow.Author.Tests.{ltb-true, eqb-true, eqb-false, eq-eqb, ne-eqb, not-true, le-leb}
+use borrow.Author.Tests.{eqb-true, eqb-false, eq-eqb, ne-eqb, not-true}
 use Rattle.rules.specs.Basics.{all}
 use Rattle.rules.specs.File.{Set}
-use Rattle.rules.specs.Isolation.{joins, linkBetween, neighbours, home, isolated, backbone, normalHop, connected}
+use Rattle.rules.specs.Isolation.{joins, linkBetween, neighbours, home, isolated, backbone, normalHop}
 use Rattle.rules.specs.Building.{withHomes, homeless, spared}
 use Rattle.rules.specs.Demands.{Walk, Two, Sound, MeetsRules, AcceptedSet, avoiding, OthersJoined, Removable, Fewer}
-use Rattle.rules.proofs.Choices.{and-of, and-left, and-right, or-cases}
-use Rattle.rules.proofs.Numbers.{all-at, all-of, lowest-is}
-use Rattle.rules.proofs.Held.{homes-all}
+use Rattle.rules.proofs.Choices.{and-of, and-left, and-right}
+use Rattle.rules.proofs.Numbers.{all-at, all-of}
 use Rattle.rules.proofs.Walks.{leaves, walk-map}
-use Rattle.rules.proofs.Connected.{Joined, backbone-of, backbone-node, backbone-free, hop-of, hop-link, hop-from, hop-to, connected-joined, joined-connected}
+use Rattle.rules.proofs.Links.{neighbours-below}
+use Rattle.rules.proofs.Homes.{backbone-of, backbone-node, backbone-free, home-low, home-high, at-home}
+use Rattle.rules.proofs.Connected.{Joined, hop-of, hop-link, hop-from, hop-to, connected-joined, joined-connected}
 use Rattle.rules.proofs.Sound.{fewer-isolated}
-
--- ---- links join nodes
-
-module _ (G : Set) (R : MeetsRules G) where
-  link-nodes : (l u w : ℕ) → l < G .net .m → joins G l u w ≡ true → (u < G .net .n) × (w < G .net .n)
-  unfolding joins
-  link-nodes l u w h e = pick (or-cases (eqb a u && eqb b w) (eqb a w && eqb b u) e)
-    where
-      a : ℕ
-      a = getD (G .a) l 0
-
-      b : ℕ
-      b = getD (G .b) l 0
-
-      low : (x y : ℕ) → (eqb (getD (G .a) l 0) x && eqb (getD (G .b) l 0) y) ≡ true → (x < G .net .n) × (y < G .net .n)
-      low x y q =
-          let p = eqb-true (getD (G .a) l 0) x (and-left (eqb (getD (G .a) l 0) x) (eqb (getD (G .b) l 0) y) q) in
-          let r = eqb-true (getD (G .b) l 0) y (and-right (eqb (getD (G .a) l 0) x) (eqb (getD (G .b) l 0) y) q) in
-          let f = R .ends l h in
-          (omega arith, omega arith)
-
-      pick : ((eqb (getD (G .a) l 0) u && eqb (getD (G .b) l 0) w) ≡ true) ⊎ ((eqb (getD (G .a) l 0) w && eqb (getD (G .b) l 0) u) ≡ true) → (u < G .net .n) × (w < G .net .n)
-      pick (inl q) = low u w q
-      pick (inr q) = let s = low w u q in (s .1, s .0)
-
-  pub neighbour-nodes : (u w : ℕ) → neighbours G u w ≡ true → (u < G .net .n) × (w < G .net .n)
-  unfolding neighbours linkBetween
-  neighbour-nodes u w e = pick (lowest-is (λ l. joins G l u w) (G .net .m) (G .net .m))
-    where
-      pick : (linkBetween G u w ≡ G .net .m) ⊎ ((linkBetween G u w < G .net .m) × (joins G (linkBetween G u w) u w ≡ true)) → (u < G .net .n) × (w < G .net .n)
-      pick (inl q) = let l = ltb-true (linkBetween G u w) (G .net .m) e in absurd (omega arith)
-      pick (inr q) = link-nodes (linkBetween G u w) u w (q .0) (q .1)
 
 -- ---- one node isolated alone
 
@@ -141,7 +110,7 @@ module _ (G : Set) (R : MeetsRules G) where
       hop x y e =
           let near = and-left (neighbours G x y) (not (eqb x v) && not (eqb y v)) e in
           let both = and-right (neighbours G x y) (not (eqb x v) && not (eqb y v)) e in
-          let s = neighbour-nodes G R x y near in
+          let s = neighbours-below G R x y near in
           hop-of (alone G v) 1 x y (alone-links G v l x y ∙ near)
           (spine-of G v l x (s .0) (eqb-false x v (not-true (eqb x v) (and-left (not (eqb x v)) (not (eqb y v)) both))))
           (spine-of G v l y (s .1) (eqb-false y v (not-true (eqb y v) (and-right (not (eqb x v)) (not (eqb y v)) both))))
@@ -167,7 +136,7 @@ module _ (G : Set) (R : MeetsRules G) where
         let x = s .0 in
         let near = and-left (neighbours G v x) (not (eqb v w) && not (eqb x w)) (s .2) in
         let apart = and-right (not (eqb v w)) (not (eqb x w)) (and-right (neighbours G v x) (not (eqb v w) && not (eqb x w)) (s .2)) in
-        (x, neighbour-nodes G R v x near .1, s .1, eqb-false x w (not-true (eqb x w) apart), near)
+        (x, neighbours-below G R v x near .1, s .1, eqb-false x w (not-true (eqb x w) apart), near)
 
     pub alone-sound : (v : ℕ) → v < G .net .n → Sound (alone G v) 1
     alone-sound v lv =
@@ -200,19 +169,9 @@ sound-removable S h v l =
 
 -- a set's nodes have homes, from 1 to k
 module _ (S : Set) (A : AcceptedSet S) where
-  own-home : (v : ℕ) → v < S .net .n → isolated S (home S v) v ≡ true
-  unfolding isolated
-  own-home v l =
-      let low = A .rules .homes v (let e = homes-all (S .net) (A .topologies) in omega arith) in
-      and-of (leb 1 (home S v)) (eqb (home S v) (home S v)) (le-leb 1 (home S v) (low .0)) (eq-eqb (home S v) (home S v) refl)
-
   -- an accepted set's graph stays connected without any one node
   pub accepted-removable : Removable S
-  accepted-removable =
-      sound-removable S
-      (λ v l.
-      let low = A .rules .homes v (let e = homes-all (S .net) (A .topologies) in omega arith) in
-      (home S v, own-home v l, A .sound (home S v) (low .0) (low .1)))
+  accepted-removable = sound-removable S (λ v l. (home S v, at-home S A v l, A .sound (home S v) (home-low S A v l) (home-high S A v l)))
 
   -- and is connected: in topology 0 no node is isolated
   pub accepted-connected : (u w : ℕ) → u < S .net .n → w < S .net .n → Walk (neighbours S) u w

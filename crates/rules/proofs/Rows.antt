@@ -6,15 +6,17 @@ use Prim.Native.Nat.{ℕ, zero, suc, _+_, _*_, _≤_, _<_}
 use native.Mathlib.Nat.{add-zero, add-suc, zero-mul, suc-mul, mul-le-mul-right, eq-or-lt-of-le, le-of-suc-le-suc}
 use native.Mathlib.Numerals.{add-one}
 use native.Mathlib.Omega.{arith}
-use lib.ListN.{length, getD, take, drop, length-append, length-drop, List·getD-append}
-use lib.Seq.{getD-at, getD-append-add, getD-take, getD-drop, ext-getD, length-take-le, take-append-seam, drop-append-seam}
-use mathlib.Core.List.{List, [], _∷_, _++_, append-assoc}
-use Prim.Native.Nat.{ℕ, zero, suc, _+_, _*_, _≤_, _<_}
-use native.Mathlib.Nat.{zero-mul, suc-mul, mul-le-mul-right, eq-or-lt-of-le, le-of-suc-le-suc}
-use lib.ListN.{length, getD, take, drop, set, length-append, length-drop, List·getD-append}
-use lib.Seq.{getD-at, getD-append-add, drop-cons, drop-drop, set-append-seam, ext-getD, take-append-seam, drop-append-seam}
+use lib.ListN.{length, getD, take, drop, set, length-append, length-drop, List·getD-append, List·getD-eq-default}
 use lib.Seq.{getD-at, getD-append-add, getD-take, drop-cons, drop-drop, set-append-seam, ext-getD, length-take-le, take-append-seam, drop-append-seam}
 use Rattle.rules.specs.Basics.{upTo, flat, laid}
+
+-- ---- the front of a list, and what lies past its end
+
+pub prefix-long : {A : Type 0} (n : ℕ) (l : List A) → n ≤ length l → n ≡ length (take n l)
+prefix-long n l h = sym (length-take-le n l h)
+
+pub past : (l : List ℕ) (x : ℕ) → length l ≤ x → 0 ≡ getD l x 0
+past l x h = sym (List·getD-eq-default l 0 h)
 
 -- ---- upTo
 

@@ -16,7 +16,8 @@ use Rattle.rules.proofs.Choices.{and-of, and-left, and-right, or-left, 
 use Rattle.rules.proofs.Order.{seven-first, eight-next, no-number}
 use Rattle.rules.proofs.Numbers.{all-at, all-of, two-of, of-two}
 use Rattle.rules.proofs.Walks.{join, turn, walk-map}
-use Rattle.rules.proofs.Connected.{backbone-of, backbone-node, backbone-free, hop-of, hop-link, hop-from, hop-to, hop-back, connected-joined, joined-connected}
+use Rattle.rules.proofs.Homes.{backbone-of, backbone-node, backbone-free}
+use Rattle.rules.proofs.Connected.{hop-of, hop-link, hop-from, hop-to, hop-back, connected-joined, joined-connected}
 
 -- each isolated node has two restricted links, as a proposition
 abbrev pub Linked : Set → ℕ → Type 0

@@ -14,7 +14,7 @@ use Rattle.rules.specs.Distance.{Path, here, over, far, distance}
 use Rattle.rules.specs.Demands.{AcceptedSet, Walk, stay, go}
 use Rattle.rules.proofs.Choices.{if-yes, if-no, false-of, clash}
 use Rattle.rules.proofs.Links.{neighbours-turned, neighbours-below, hop-neighbours, hop-isolated, hop-into, hop-leaves, hop-enters, usable-hop, hop-usable}
-use Rattle.rules.proofs.Homes.{backbone-of, backbone-below, outlet-of}
+use Rattle.rules.proofs.Homes.{backbone-of, backbone-node, outlet-of}
 use Rattle.rules.proofs.Degree.{path-below-restricted}
 use Rattle.rules.proofs.Rounds.{Way, best, attained, found, found-light}
 use Rattle.rules.proofs.Rounds as rounds
@@ -46,7 +46,7 @@ module _ (S : Set) (A : AcceptedSet S) (i : ℕ) (lo : 1 ≤ i) (hi : i ≤ S .n
   walk-way u w t d (go {w = x} r e) p =
       let q = normal-link S i x w e in
       walk-way u x t (normalWeight S i x w + d) r
-      (rounds.over (backbone-below S i x (q .one)) (backbone-below S i w (q .other))
+      (rounds.over (backbone-node S i x (q .one)) (backbone-node S i w (q .other))
       (omega (arith, if-yes (normalHop S i x w) (hopWeight S i x w) 0 e, normal-weight S A i x w hi e .0)) p)
 
   way-distance : (u w t d : ℕ) → t < S .net .n → Way (normalWeight S i) (S .net .n) w u d → distance S i u t ≤ d + distance S i w t

@@ -1,6 +1,6 @@
 -- Who is in each word of `Word`, and in the word of a test; a word is its members.
 use mathlib.Core.Path.{_≡_, refl, sym, ap, ap₂, _∙_}
-use mathlib.Core.Bool.{Bool, true, false, _&&_, _||_, not, true≢false, false≢true}
+use mathlib.Core.Bool.{Bool, true, false, _&&_, _||_, not, and-true, and-false, or-true, or-false, true≢false, false≢true}
 use Prim.Native.Nat.{ℕ, zero, suc, _+_, _-_, _*_, _/_, _%_, _^_, _≤_, _<_}
 use native.Mathlib.Nat.{zero-add, suc-add, pow-suc, mod-lt}
 use native.Mathlib.Numerals.{one-add}
@@ -162,14 +162,10 @@ pub has-first : (n v : ℕ) → has (firsts n) v ≡ ltb v n
 unfolding firsts
 has-first n v = has-firsts n v
 
-or-none : (b : Bool) → b ≡ (b || false)
-or-none true = refl
-or-none false = refl
-
 pub has-put : (b : Bool) (w u v : ℕ) → has (put b w u) v ≡ (has w v || (b && eqb v u))
 unfolding put
 has-put true w u v = has-adding w u v
-has-put false w u v = or-none (has w v)
+has-put false w u v = sym (or-false (has w v))
 
 -- ---- each stays a word
 pub both-fits : (a b : ℕ) → a < 2 ^ 32 → both a b < 2 ^ 32
@@ -207,10 +203,6 @@ ltb-suc v n = go (eqb v n) refl (ltb v n) refl
   where
     go : (b : Bool) → eqb v n ≡ b → (c : Bool) → ltb v n ≡ c → ltb v (suc n) ≡ (ltb v n || eqb v n)
     go true e c f = let q = eqb-true v n e in rw (e, lt-ltb v (suc n) (omega arith)) (sym (or-true (ltb v n)))
-      where
-        or-true : (x : Bool) → (x || true) ≡ true
-        or-true true = refl
-        or-true false = refl
     go false e true f = let q = ltb-true v n f in rw (e, f, lt-ltb v (suc n) (omega arith))
     go false e false f =
         let q = eqb-false v n e in
@@ -229,22 +221,14 @@ has-put-at p true false n v e = none (p v) (p n)
     none true y = refl
     none false true = refl
     none false false = refl
-has-put-at p false true n v e = rw (eqb-true v n e) (same (p n))
-  where
-    same : (x : Bool) → (x && true) ≡ x
-    same true = refl
-    same false = refl
-has-put-at p false false n v e = same (p n)
-  where
-    same : (x : Bool) → (x && false) ≡ false
-    same true = refl
-    same false = refl
+has-put-at p false true n v e = rw (eqb-true v n e) (and-true (p n))
+has-put-at p false false n v e = and-false (p n)
 
 -- 2 to the power n and a word below it: n comes in
 has-plus : (n w v : ℕ) → w < 2 ^ n → has (2 ^ n + w) v ≡ (has w v || eqb v n)
 unfolding has
 has-plus zero w v h = rw (lt-one h) (has-only 0 v ∙ ap (λ (t : Bool). t || eqb v 0) (sym (has-none v)))
-has-plus (suc n) w zero h = rw (pow-suc, eqb·zero-suc) (ap (λ (x : ℕ). eqb x 1) (last (2 ^ n) w) ∙ or-none (eqb (w % 2) 1))
+has-plus (suc n) w zero h = rw (pow-suc, eqb·zero-suc) (ap (λ (x : ℕ). eqb x 1) (last (2 ^ n) w) ∙ sym (or-false (eqb (w % 2) 1)))
   where
     last : (p x : ℕ) → (p * 2 + x) % 2 ≡ x % 2
     last p x = omega arith
@@ -267,7 +251,7 @@ word-below p (suc n) = go (word-below p n) (p n) refl
 has-more : (t : Bool) (n w v : ℕ) → w < 2 ^ n → has ((if t then 2 ^ n else 0) + w) v ≡ (has w v || (t && eqb v n))
 unfolding if_then_else_
 has-more true n w v h = has-plus n w v h
-has-more false n w v h = ap (λ (x : ℕ). has x v) (zero-add w) ∙ or-none (has w v)
+has-more false n w v h = ap (λ (x : ℕ). has x v) (zero-add w) ∙ sym (or-false (has w v))
 
 pub has-word : (p : ℕ → Bool) (n v : ℕ) → has (word p n) v ≡ (ltb v n && p v)
 unfolding word

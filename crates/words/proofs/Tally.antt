@@ -1,17 +1,16 @@
 -- How many are in a word, and the lowest: the ones counted and the trailing zeros, as `count` and `lowest` of 01's definitions.
 use mathlib.Core.Path.{_≡_, refl, sym, ap, ap₂, _∙_}
 use mathlib.Core.Bool.{Bool, true, false, _&&_}
-use Prim.Native.Nat.{ℕ, zero, suc, _+_, _-_, _*_, _/_, _%_, _^_, _≤_, _<_}
+use Prim.Native.Nat.{ℕ, zero, suc, _+_, _*_, _/_, _%_, _^_, _<_}
 use native.Mathlib.Nat.{pow-suc, mod-lt}
 use native.Mathlib.Omega.{arith}
 use lib.Dec.{eqb, ltb}
 use lib.Arith.{lt-one}
 use lib.Count.{ones, onesIn, ones-step, trailingZeros, trailing-le, under}
 use borrow.Author.Tests.{ltb-true, ltb-false, lt-ltb}
-use Rattle.rules.specs.Basics.{any, count, lowest}
+use Rattle.rules.specs.Basics.{count, lowest}
 use Rattle.rules.specs.Isolation.{word}
-use Rattle.rules.proofs.Choices.{and-left, false-of, clash}
-use Rattle.rules.proofs.Numbers.{bit, count-none, count-more, count-ext, any-at, any-of, lowest-none, lowest-found, lowest-before, lowest-one}
+use Rattle.rules.proofs.Numbers.{bit, count-none, count-more, count-ext, lowest-none, lowest-one}
 use Rattle.words.specs.Word.{has, lowestIn}
 use Rattle.words.proofs.Members.{has-none, has-ext, has-word, word-below}
 
@@ -92,24 +91,3 @@ lowest-there w r h ne e = go (ltb r 32) refl
     go false q =
         let l = ltb-false r 32 q in
         absurd (ne (has-ext 32 w 0 h (omega arith) (λ v lv. trailing-none 32 w v (rw (← e) (omega arith)) ∙ sym (has-none v))))
-
--- the lowest member of the word of a test is the lowest number that passes, or 32
-pub lowest-word : (p : ℕ → Bool) (n : ℕ) → n ≤ 32 → lowestIn (word p n) ≡ lowest p n 32
-lowest-word p n h = lowest-in (word p n) ∙ go (any p n) refl
-  where
-    at : (v : ℕ) → v < n → has (word p n) v ≡ p v
-    at v l = has-word p n v ∙ ap (λ (t : Bool). t && p v) (lt-ltb v n l)
-
-    go : (t : Bool) → any p n ≡ t → lowest (has (word p n)) 32 32 ≡ lowest p n 32
-    go true q =
-        let s = any-at p n q in
-        let f = lowest-found p n 32 (s .0) (s .1) (s .2) in
-        let b = s .1 in
-        let c = f .0 in
-        lowest-one (has (word p n)) 32 32 (lowest p n 32) (omega arith) (at (lowest p n 32) (omega arith) ∙ f .1)
-        (λ v l. at v (omega arith) ∙ lowest-before p n 32 v (omega arith) l)
-    go false q =
-        let none : (v : ℕ) → v < n → p v ≡ false = λ v l. false-of (p v) (λ e. clash (any p n) (any-of p n v l e) q) in
-        lowest-none (has (word p n)) 32 32
-        (λ v l. false-of (has (word p n) v) (λ e. let b = ltb-true v n (and-left (ltb v n) (p v) (sym (has-word p n v) ∙ e)) in clash (p v) (sym (at v b) ∙ e) (none v b)))
-        ∙ sym (lowest-none p n 32 none)

@@ -1,7 +1,7 @@
 -- The writer's verdict test by test, and the promise of its entry.
-use mathlib.Core.Path.{_≡_, refl, sym, ap, _∙_}
+use mathlib.Core.Path.{_≡_, sym, ap, _∙_}
 use mathlib.Core.List.{List, [], _∷_}
-use Prim.Native.Nat.{ℕ, _≤_, _<_}
+use Prim.Native.Nat.{ℕ, _≤_}
 use native.Mathlib.Omega.{arith}
 use lib.Dec.{leb}
 use lib.ListN.{length}
@@ -16,33 +16,19 @@ use Rattle.rules.specs.File.{Set, encode, rowStart, headerOf}
 use Rattle.rules.specs.Judgement.{refuse, andThen, headerNumber, records, judge, needRoom}
 use Rattle.rules.specs.Answers.{tell, lengthTells}
 use Rattle.rules.specs.Entries.{Promise, onAccept, Lists, lists, needLists, setWith, writeEntry}
-use Rattle.rules.proofs.Choices.{need-ok, need-le, need-le-no, refuse-ok, refuse-no, refuse-zero, then-ok, then-no, then-stop, then-second}
+use Rattle.rules.proofs.Choices.{need-ok, refuse-ok, refuse-no, refuse-zero, then-ok, then-no, then-second}
 use Rattle.rules.proofs.Encoded.{encode-long, header-back, header-marked}
 use Rattle.rules.proofs.Records.{HeaderMeets, counts-ok, header-zero}
-use Rattle.writer.specs.Parts.{shortNumber, recordsThenRoom, writeVerdict, put}
+use Rattle.housefile.specs.Rules.{listsRule}
+use Rattle.writer.specs.Parts.{recordsThenRoom, writeVerdict, put}
 use Rattle.writer.proofs.Stores.{put-laid}
 
 -- ---- the records, then the room
-
-pub room-short : (wanted long : ℕ) → long < wanted → Refused 14 0 ≡ refuse (need (leb wanted long) 14 0) 0
-unfolding refuse
-room-short wanted long h = ap (λ (x : ℕ). refuse x 0) (need-le-no wanted long 14 0 14 h refl)
-
-pub room-enough : (wanted long : ℕ) → wanted ≤ long → Accepted ≡ refuse (need (leb wanted long) 14 0) 0
-room-enough wanted long h = refuse-ok _ 0 (sym (need-le wanted long 14 0 0 h refl))
 
 pub room-after : (h : Network) (d : Lists) (wanted long : ℕ) (v w r : Verdict) → v ≡ records (encode (setWith h d)) h → w ≡ refuse (need (leb wanted long) 14 0) 0
     → wanted ≡ fileLength h → r ≡ andThen v w → r ≡ recordsThenRoom h d long
 unfolding recordsThenRoom
 room-after h d wanted long v w r p q e t = t ∙ rw (p, q, e)
-
-pub first-on : (v w : Verdict) → v ≡ Accepted → w ≡ andThen v w
-first-on v w t = sym (then-ok v w t)
-
-pub first-stop : (v w : Verdict) (number place : ℕ) → v ≡ Refused number place → v ≡ andThen v w
-first-stop v w number place t = then-stop v v w number place t refl
-
-pub ruleset rooms = (room-short, room-enough, first-on, first-stop, room-after)
 
 -- ---- the counts and the lists before them
 
@@ -64,12 +50,12 @@ module _ (h : Network) (d : Lists) (room counts : ℕ) (e : counts ≡ needCount
   counts-taken z = ap (λ (x : ℕ). refuse x 0) (sym e) ∙ sym (refuse-ok counts 0 z)
 
 module _ (h : Network) (a b weights homes rows : List ℕ) (room counts : ℕ) (e : counts ≡ needCounts h 0) (z : counts ≡ 0) (number n all : ℕ)
-    (s : number ≡ shortNumber (h .m) n all (length a) (length b) (length weights) (length homes) (length rows)) (p : n ≡ homeRecords h) (q : all ≡ rowStart h (h .k)) where
+    (s : number ≡ listsRule 1 h (length a) (length b) (length weights) (length homes) (length rows) n all) (p : n ≡ homeRecords h) (q : all ≡ rowStart h (h .k)) where
   abbrev given : Lists
   given = lists a b weights homes rows
 
   short-is : refuse number 0 ≡ needLists 1 h given
-  unfolding needLists shortNumber rowStart
+  unfolding needLists listsRule rowStart
   short-is = rw (s, p, q)
 
   pub lists-refused : (number ≡ 0 → ⊥) → Refused number 0 ≡ writeVerdict h given room

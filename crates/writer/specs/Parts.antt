@@ -52,11 +52,6 @@ backupVerdict h a b homes rows =
     andThen (inTurn (judged (homeNumber (encode (homesOnly h homes)) h) (homePlace h)) (homeRecords h))
     (inTurn (judged (rowNumber (encode (backupOnly h a b homes rows)) h) (rowPlace h)) (h .k))
 
--- 1 where a list of this length is under what it needs: m for the links, `count` homes, `all` weights of rows
-unfoldable pub shortNumber : ℕ → ℕ → ℕ → ℕ → ℕ → ℕ → ℕ → ℕ → ℕ
-shortNumber m count all a b weights homes rows =
-    need (leb m a) 1 (need (leb m b) 1 (need (leb m weights) 1 (need (leb count homes) 1 (need (leb all rows) 1 0))))
-
 -- the records, then a room that is so long
 unfoldable pub recordsThenRoom : Network → Lists → ℕ → Verdict
 recordsThenRoom h d room = andThen (records (encode (setWith h d)) h) (refuse (need (leb (fileLength h) room) 14 0) 0)

@@ -7,72 +7,14 @@ mod draft; // draft.rt: the judgement of the records
 pub mod store; // store.rt: the bytes of a set
 
 use housefile::rule;
+use order::need_room;
+use order::then;
 use rules::LengthAnswer;
 use rules::Network;
 use rules::Verdict;
 ghost use mathlib.Core.Path.{_≡_};
-ghost use lib.Dec.{leb};
-ghost use Rattle.rules.specs.Basics.{need};
-ghost use Rattle.rules.specs.Judgement.{refuse, andThen};
 ghost use Rattle.rules.specs.Entries.{Promise, lists, writeEntry};
-ghost use Rattle.writer.specs.Parts.{shortNumber, recordsThenRoom, writeVerdict};
-
-// A list under what it needs: `m` for the links, `count` homes, `all` weights of rows.
-fn short(
-    m: usize,
-    count: usize,
-    all: usize,
-    a: usize,
-    b: usize,
-    weights: usize,
-    homes: usize,
-    rows: usize,
-) -> u8
-    ensures { λ r. ⌜ r ≡ shortNumber m count all a b weights homes rows ⌝ }
-{
-    if a < m {
-        return 1;
-    }
-    if b < m {
-        return 1;
-    }
-    if weights < m {
-        return 1;
-    }
-    if homes < count {
-        return 1;
-    }
-    if rows < all {
-        return 1;
-    }
-    0
-}
-
-// Room under what it is to hold.
-fn room(wanted: usize, long: usize) -> Verdict
-    ensures { λ r. ⌜ r ≡ refuse (need (leb wanted long) 14 0) 0 ⌝ }
-{
-    if long < wanted {
-        return Verdict::Refused {
-            number: 14,
-            place: 0,
-        };
-    }
-    Verdict::Accepted
-}
-
-// The first of two that refuses.
-fn first(v: Verdict, w: Verdict) -> Verdict
-    ensures { λ r. ⌜ r ≡ andThen v w ⌝ }
-{
-    match v {
-        Verdict::Accepted => w,
-        Verdict::Refused {
-            number: _,
-            place: _,
-        } => v,
-    }
-}
+ghost use Rattle.writer.specs.Parts.{recordsThenRoom, writeVerdict};
 
 // The records, then the room.
 fn records_then_room(
@@ -87,8 +29,8 @@ fn records_then_room(
     ensures { λ r. ⌜ r ≡ recordsThenRoom net (lists (now (a .entry)) (now (b .entry)) (now (weights .entry)) (now (homes .entry)) (now (rows .entry))) long ⌝ }
 {
     let records = draft::records(net, a, b, weights, homes, rows);
-    let room = room(housefile::file_length(net), long);
-    first(records, room)
+    let room = need_room(housefile::file_length(net), long);
+    then(records, room)
 }
 
 // What writing these lists answers, into a room that is so long.
@@ -110,15 +52,16 @@ fn judged(
             place: 0,
         };
     }
-    let number = short(
-        net.m as usize,
-        housefile::home_records(net),
-        list::row_start(net, net.k as usize),
+    let number = rule::lists(
+        1,
+        net,
         a.len(),
         b.len(),
         weights.len(),
         homes.len(),
         rows.len(),
+        housefile::home_records(net),
+        list::row_start(net, net.k as usize),
     );
     if number != 0 {
         return Verdict::Refused { number, place: 0 };

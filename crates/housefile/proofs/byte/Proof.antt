@@ -1,7 +1,5 @@
-use mathlib.Core.Path.{sym}
-use lib.ListN.{List·getD-eq-default}
-use denote.Ref.{now}
 use borrow.Author.Needs.{needs}
+use Rattle.rules.proofs.Rows.{past}
 use Rattle.housefile.proofs.byte.Statement.{statement}
 use Rattle.housefile.proofs.byte.Tie as tie
 
@@ -12,7 +10,7 @@ returns : tie.Need-returns
 returns c = search needs
 
 returns-2 : tie.Need-returns-2
-returns-2 c = sym (List·getD-eq-default (now (c .before .args .file)) 0 (c .if1 .left))
+returns-2 c = search past
 
 pub byte-spec : {M : Type 1} → statement M
 byte-spec = tie.close (tie.spec shared-slice-read-result returns returns-2)

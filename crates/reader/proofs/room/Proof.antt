@@ -9,8 +9,8 @@ home-records-requires c κs = search needs
 row-entries-requires : tie.Need-row-entries-requires
 row-entries-requires c κs = search needs
 
-lists-number-requires : tie.Need-lists-number-requires
-lists-number-requires c κs = search needs
+lists-requires : tie.Need-lists-requires
+lists-requires c κs = search needs
 
 returns : tie.Need-returns
 returns c = search reading
@@ -21,4 +21,4 @@ returns-2 c = search reading
 pub room-spec : {M : Type 1} → statement M
 room-spec =
     tie.close
-    (tie.spec home-records-requires row-entries-requires lists-number-requires returns returns-2)
+    (tie.spec home-records-requires row-entries-requires lists-requires returns returns-2)

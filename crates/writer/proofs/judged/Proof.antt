@@ -9,9 +9,6 @@ counts-requires c κs = search needs
 returns : tie.Need-returns
 returns c = search verdicts
 
-cast-short : tie.Need-cast-short
-cast-short c = search needs
-
 home-records-requires : tie.Need-home-records-requires
 home-records-requires c κs = search needs
 
@@ -21,8 +18,8 @@ cast-row-start c = search needs
 row-start-requires : tie.Need-row-start-requires
 row-start-requires c κs = search needs
 
-short-requires : tie.Need-short-requires
-short-requires c κs = search needs
+lists-requires : tie.Need-lists-requires
+lists-requires c κs = search needs
 
 returns-2 : tie.Need-returns-2
 returns-2 c = search verdicts
@@ -39,11 +36,10 @@ judged-spec =
     (tie.spec
     counts-requires
     returns
-    cast-short
     home-records-requires
     cast-row-start
     row-start-requires
-    short-requires
+    lists-requires
     returns-2
     records-then-room-requires
     returns-3)

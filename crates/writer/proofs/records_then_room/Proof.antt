@@ -1,5 +1,5 @@
 use borrow.Author.Needs.{needs}
-use Rattle.writer.proofs.Verdicts.{rooms}
+use Rattle.writer.proofs.Verdicts.{room-after}
 use Rattle.writer.proofs.records_then_room.Statement.{statement}
 use Rattle.writer.proofs.records_then_room.Tie as tie
 
@@ -9,15 +9,15 @@ records-requires c κs = search needs
 file-length-requires : tie.Need-file-length-requires
 file-length-requires c κs = search needs
 
-room-requires : tie.Need-room-requires
-room-requires c κs = search needs
+need-room-requires : tie.Need-need-room-requires
+need-room-requires c κs = search needs
 
-first-requires : tie.Need-first-requires
-first-requires c κs = search needs
+then-requires : tie.Need-then-requires
+then-requires c κs = search needs
 
 returns : tie.Need-returns
-returns c = search rooms
+returns c = search room-after
 
 pub records-then-room-spec : {M : Type 1} → statement M
 records-then-room-spec =
-    tie.close (tie.spec records-requires file-length-requires room-requires first-requires returns)
+    tie.close (tie.spec records-requires file-length-requires need-room-requires then-requires returns)

@@ -1,7 +1,5 @@
-use mathlib.Core.Path.{sym}
-use lib.ListN.{List·getD-eq-default}
 use borrow.Author.Needs.{needs}
-use denote.Ref.{now}
+use Rattle.rules.proofs.Rows.{past}
 use Rattle.writer.proofs.list.entry.Statement.{statement}
 use Rattle.writer.proofs.list.entry.Tie as tie
 
@@ -15,7 +13,7 @@ returns : tie.Need-returns
 returns c = search needs
 
 returns-2 : tie.Need-returns-2
-returns-2 c = sym (List·getD-eq-default (now (c .before .args .list)) 0 (c .if1 .left))
+returns-2 c = search past
 
 pub entry-spec : {M : Type 1} → statement M
 entry-spec = tie.close (tie.spec mul-result shared-slice-read-result returns returns-2)
