@@ -16,6 +16,7 @@ use mir.Syntax.{w32}
 use mir.Val.{Fits, toZ}
 use mir.Facts.{toZ-pos}
 use Rattle.rules.specs.Distance.{far}
+use Rattle.rules.proofs.Rows.{past}
 use Rattle.routes.specs.Lanes.{lane, lanes, LowRow, unitRow, column, entry, LowRows}
 
 pub same? : (m n : ℕ) → (m ≡ n) ⊎ (m ≡ n → ⊥)
@@ -62,20 +63,14 @@ pub sum-low : (c t : ℕ) (q : List ℕ) → LowRow q → t < 32 → c < far →
 sum-low c t q L g h = omega (arith, L .low t g)
 
 -- ---- lanes of a row
-getD-out : (l : List ℕ) (i : ℕ) → length l ≤ i → getD l i 0 ≡ 0
-getD-out [] i h = refl
-getD-out (x ∷ l) zero h = absurd (omega arith)
-getD-out (x ∷ l) (suc i) h = getD-out l i (omega arith)
-
 -- a lane that may only fall: past the end it is 0, and stays so
 pub lane-set : (t v : ℕ) (p : List ℕ) → getD (set p t (min (getD p t 0) v)) t 0 ≡ min (getD p t 0) v
 lane-set t v p =
     let w = min (getD p t 0) v in
     ⊎-elim (λ (h : t < length p). getD-set-same p t w 0 h)
     (λ (h : length p ≤ t).
-    let z : getD p t 0 ≡ 0 = getD-out p t h in
-    let y : getD (set p t w) t 0 ≡ 0 = getD-out (set p t w) t (omega (arith, length-set p t w)) in
-    omega (arith, z, y))
+    let beyond : length (set p t w) ≤ t = omega (arith, length-set p t w) in
+    omega (arith, past p t h, past (set p t w) t beyond))
     (in-or-out t (length p))
 
 lane-other : (c t u : ℕ) (q p : List ℕ) → (u ≡ t → ⊥) → getD (lane c q t p) u 0 ≡ getD p u 0
