@@ -1,5 +1,5 @@
 -- The report into any room.
-use mathlib.Core.Path.{_≡_, refl, sym, ap, ap₂, _∙_}
+use mathlib.Core.Path.{_≡_, refl, sym, ap, _∙_}
 use mathlib.Core.Bool.{Bool, true, false}
 use mathlib.Core.List.{List, [], _∷_, _++_}
 use Prim.Native.Nat.{ℕ, _+_, _-_, _≤_, _<_}
@@ -17,7 +17,7 @@ use Rattle.rules.specs.Basics.{need, laid}
 use Rattle.rules.specs.File.{setOf}
 use Rattle.rules.specs.Judgement.{refuse, andThen, check, needRoom}
 use Rattle.rules.specs.Report.{reportText}
-use Rattle.rules.specs.Answers.{Told, accepted, refused, tell, lengthTells}
+use Rattle.rules.specs.Answers.{accepted, refused, tell, lengthTells}
 use Rattle.rules.specs.Entries.{Promise, onAccept, reportEntry}
 use Rattle.rules.proofs.Rows.{laid-front, laid-more}
 use Rattle.capi.specs.Words.{wordOf, byLength, Answers, textEntry, Laid}

@@ -21,7 +21,7 @@ ghost use lib.ListN.{length, take};
 ghost use Rattle.rules.specs.Basics.{laid};
 ghost use Rattle.rules.specs.Report.{letter};
 ghost use Rattle.rules.specs.Answers.{verdictTells, readTells, lengthTells, outcomeValue, stepValues, stepTells, journeyValues, runTells};
-ghost use Rattle.rules.specs.Entries.{Promise, lists, checkEntry, buildEntry, tablesEntry, stepEntry, runEntry, readEntry, writeEntry};
+ghost use Rattle.rules.specs.Entries.{lists, checkEntry, buildEntry, tablesEntry, stepEntry, runEntry, readEntry, writeEntry};
 ghost use Rattle.capi.specs.Words.{refusedWord, pack, wordOf, failureOf, Answers, byLength, byRead, byStep, byRun, packetAt, textEntry, Laid};
 
 // ---- answers as words

@@ -8,7 +8,7 @@ use Rattle.rules.specs.declared.Network.{Network}
 use Rattle.rules.specs.declared.Verdict.{Verdict}
 use Rattle.rules.specs.declared.Verdict.the-variants.{Accepted}
 use Rattle.rules.specs.Basics.{need}
-use Rattle.rules.specs.Limits.{homeRecords, rowWeights, tablesLength}
+use Rattle.rules.specs.Limits.{rowWeights, tablesLength}
 use Rattle.rules.specs.File.{headerOf, setOf}
 use Rattle.rules.specs.Judgement.{refuse, andThen, check}
 use Rattle.rules.specs.Entries.{Lists, setWith}

@@ -12,7 +12,6 @@ use rules::Network;
 use rules::Verdict;
 use tables::fill_tables;
 ghost use mathlib.Core.Path.{_≡_};
-ghost use Prim.Native.Nat.{_≤_};
 ghost use lib.ListN.{length};
 ghost use Rattle.rules.specs.declared.Verdict.the-variants.{Accepted};
 ghost use Rattle.rules.specs.Limits.{tablesLength};

@@ -3,11 +3,11 @@
 pub mod alternates; // alternates.rt: the alternates of the nodes whose home it is
 
 ghost use mathlib.Core.Path.{_≡_};
-ghost use Prim.Native.Nat.{ℕ, _+_, _*_, _^_, _≤_, _<_, min};
-ghost use lib.ListN.{length, getD, set, replicate};
+ghost use Prim.Native.Nat.{_+_, _*_, _≤_, _<_};
+ghost use lib.ListN.{length, set, replicate};
 ghost use Rattle.rules.specs.Basics.{upTo, flat};
 ghost use Rattle.rules.specs.Distance.{far};
-ghost use Rattle.routes.specs.Lanes.{column, LowRow, LowRows};
+ghost use Rattle.routes.specs.Lanes.{LowRow, LowRows};
 ghost use Rattle.routes.specs.Passes.{netOf, Wired};
 ghost use Rattle.hops.specs.Ties.{orWord, tieOf, bitFor, firstOf, marked, mark, markBoth, markLink, marks, WideRows, Marked, MarkSpot, MarkPair, Clear, Worded, hopOf, hopAt, hopsOf, tieTable};
 

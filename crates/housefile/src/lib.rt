@@ -93,7 +93,7 @@ pub fn file_length(net: Network) -> usize
     row_place(net, net.k as usize)
 }
 
-// ---- fields
+// ---- fields: after its mark's two bytes a link has a, b and a weight of two bytes, a home its node and topology
 
 // One end of link l, and the other.
 pub fn end_a(file: &[u8], l: usize) -> u8

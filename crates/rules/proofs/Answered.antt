@@ -2,31 +2,27 @@
 -- the trail of the run.
 use mathlib.Core.Path.{_≡_, refl, sym, ap, _∙_}
 use mathlib.Core.Bool.{Bool, true, false}
-use mathlib.Core.List.{List, [], _∷_}
-use Prim.Native.Nat.{ℕ, zero, suc, _+_, _≤_, _<_}
+use Prim.Native.Nat.{ℕ, suc, _<_}
 use native.Mathlib.Omega.{arith}
-use lib.Dec.{eqb, ltb}
-use lib.ListN.{length, take}
+use lib.Dec.{eqb}
+use lib.ListN.{take}
 use borrow.Author.Tests.{ltb-true, eqb-true}
 use Rattle.rules.specs.declared.Failure.{Failure}
 use Rattle.rules.specs.declared.Failure.the-variants.{Nothing, Link, Node}
-use Rattle.rules.specs.declared.Journey.{Journey}
 use Rattle.rules.specs.declared.Verdict.{Verdict}
-use Rattle.rules.specs.declared.Verdict.the-variants.{Accepted, Refused}
+use Rattle.rules.specs.declared.Verdict.the-variants.{Accepted}
 use Rattle.rules.specs.declared.Outcome.{Outcome}
 use Rattle.rules.specs.declared.Outcome.the-variants as ended
 use Rattle.rules.specs.declared.RunAnswer.{RunAnswer}
 use Rattle.rules.specs.declared.RunAnswer.the-variants as ran
-use Rattle.rules.specs.Basics.{if_then_else_, laid}
-use Rattle.rules.specs.Limits.{mostHops}
+use Rattle.rules.specs.Basics.{if_then_else_}
 use Rattle.rules.specs.File.{Set, headerOf, setOf}
-use Rattle.rules.specs.Isolation.{home, neighbours}
-use Rattle.rules.specs.Forwarding.{Fault, faultOf, failed, up, Run, hops, trail}
-use Rattle.rules.specs.Judgement.{refuse, andThen, check, needPacket, needSource, sourceNumber}
-use Rattle.rules.specs.Report.{runUnder}
+use Rattle.rules.specs.Isolation.{home}
+use Rattle.rules.specs.Forwarding.{faultOf, failed, up, Run, hops, trail}
+use Rattle.rules.specs.Judgement.{refuse, check, needPacket, needSource, sourceNumber}
 use Rattle.rules.specs.Answers.{tell, runTells, journeyValues}
-use Rattle.rules.specs.Entries.{Promise, onAccept, RunInput, RunLent, runOf, runValues, runEntry}
-use Rattle.rules.specs.Demands.{AcceptedSet, Tolerated, DeliveredBy, EachHop, DeliveredByRun}
+use Rattle.rules.specs.Entries.{onAccept, RunInput, RunLent, runOf, runValues, runEntry}
+use Rattle.rules.specs.Demands.{AcceptedSet, Tolerated, DeliveredByRun}
 use Rattle.rules.proofs.Choices.{need-ok, refuse-zero, then-first, then-second}
 use Rattle.rules.proofs.Rows.{laid-front}
 use Rattle.rules.proofs.Determined.{run-one}

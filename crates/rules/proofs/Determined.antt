@@ -1,7 +1,7 @@
 -- Demand 1: each entry takes every input, a refusal alters nothing, and two results that a promise allows coincide.
 use mathlib.Core.Path.{_≡_, refl, sym, ap, ap₂, _∙_}
 use mathlib.Core.List.{List, [], _∷_}
-use Prim.Native.Nat.{ℕ, zero, suc}
+use Prim.Native.Nat.{ℕ}
 use native.Mathlib.Omega.{arith}
 use lib.Dec.{eqb}
 use Rattle.rules.specs.Basics.{if_then_else_}
@@ -28,7 +28,7 @@ use Rattle.rules.specs.File.{headerOf}
 use Rattle.rules.specs.Forwarding.{Run, hops}
 use Rattle.rules.specs.Report.{letter}
 use Rattle.rules.specs.Answers.{accepted, tell, verdictTells, headerValues, readTells, lengthTells, outcomeValue, packetValues, stepValues, stepTells, journeyValues, runTells}
-use Rattle.rules.specs.Entries.{Entry, Promise, onAccept, readEntry, writeEntry, checkEntry, buildEntry, tablesEntry, stepOf, stepEntry, runOf, runValues, runEntry, reportEntry}
+use Rattle.rules.specs.Entries.{Entry, onAccept, readEntry, writeEntry, checkEntry, buildEntry, tablesEntry, stepOf, stepEntry, runOf, runValues, runEntry, reportEntry}
 use Rattle.rules.specs.Demands.{TakesEveryInput, Demand1}
 
 -- ---- an entry takes every input where each telling has an answer, and only one

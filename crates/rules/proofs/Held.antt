@@ -9,7 +9,7 @@ use lib.ListN.{length, getD, take, drop}
 use lib.Seq.{getD-take, getD-drop}
 use borrow.Author.Tests.{le-leb, ne-eqb}
 use Rattle.rules.specs.declared.Network.{Network}
-use Rattle.rules.specs.Basics.{if_then_else_, need, upTo}
+use Rattle.rules.specs.Basics.{need, upTo}
 use Rattle.rules.specs.Limits.{homeRecords, rowWeights}
 use Rattle.rules.specs.File.{Set, rowStart, headerOf, endA, endB, linkWeight, homeTopology, rowWeight, setOf}
 use Rattle.rules.specs.Isolation.{home, isolated, classBy, class, rowInForce}

@@ -4,7 +4,6 @@ use mathlib.Core.Bool.{Bool, true, false}
 use mathlib.Core.List.{List, _++_}
 use Prim.Native.Nat.{ℕ, zero, suc, _+_, _*_, _≤_, _<_}
 use native.Mathlib.Nat.{suc-mul, mul-le-mul-right}
-use native.Mathlib.Numerals.{add-one}
 use native.Mathlib.Omega.{arith}
 use lib.Dec.{eqb}
 use lib.ListN.{length, getD, length-append, List·getD-append}
@@ -22,8 +21,8 @@ use Rattle.rules.specs.File.{Set}
 use Rattle.rules.specs.Isolation.{home}
 use Rattle.rules.specs.Distance.{nextHop, alternate, tableBytes}
 use Rattle.rules.specs.Forwarding.{Tables, tablesOf, entryPlace, lentTables, moveOrDrop, changeTo, blocked, toward, step, Run, stop, onward, afterStep, run}
-use Rattle.rules.specs.Demands.{AcceptedSet, NextHopIs}
-use Rattle.rules.proofs.Choices.{if-yes, if-no}
+use Rattle.rules.specs.Demands.{AcceptedSet}
+use Rattle.rules.proofs.Choices.{if-yes}
 use Rattle.rules.proofs.Rows.{length-upTo, getD-upTo, length-flat, getD-flat, getD-laid}
 use Rattle.rules.proofs.Homes.{home-high}
 use Rattle.rules.proofs.NextHops.{least-next-hops}

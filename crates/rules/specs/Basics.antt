@@ -1,8 +1,8 @@
 -- The few words of these definitions that are not 01's: a choice, tests in order, all and any, how many, the lowest, the least, and lists by index.
 use mathlib.Core.Bool.{Bool, true, false, _&&_, _||_}
 use mathlib.Core.List.{List, [], _∷_, _++_}
-use Prim.Native.Nat.{ℕ, zero, suc, _+_, _*_, min}
-use lib.ListN.{length, getD, drop}
+use Prim.Native.Nat.{ℕ, zero, suc, _+_, min}
+use lib.ListN.{length, drop}
 
 infix 5 if_then_else_
 -- x where the test holds, y where it does not

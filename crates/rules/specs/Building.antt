@@ -1,11 +1,10 @@
 -- 01, 'The builder'.
-use mathlib.Core.Bool.{Bool, true, false, not}
+use mathlib.Core.Bool.{Bool}
 use mathlib.Core.List.{List}
 use Prim.Native.Nat.{ℕ, zero, suc, _+_, _-_, max}
 use lib.Dec.{eqb, leb}
 use lib.ListN.{getD, set, replicate}
-use Rattle.rules.specs.declared.Network.{Network}
-use Rattle.rules.specs.Basics.{if_then_else_, need, all, lowest, upTo, flat}
+use Rattle.rules.specs.Basics.{need, all, lowest, upTo, flat}
 use Rattle.rules.specs.File.{Set}
 use Rattle.rules.specs.Isolation.{class, Class, connected, topologyNumber}
 

@@ -3,14 +3,12 @@ use mathlib.Core.Path.{_≡_}
 use mathlib.Core.Logic.{_↔_, _⊎_}
 use mathlib.Core.Bool.{Bool, true, false, not, _&&_}
 use mathlib.Core.List.{List, [], _∷_}
-use Prim.Native.Nat.{ℕ, zero, suc, _+_, _-_, _*_, _≤_, _<_}
+use Prim.Native.Nat.{ℕ, suc, _+_, _-_, _*_, _≤_, _<_}
 use lib.Dec.{eqb}
 use lib.ListN.{length, getD, take}
 use Rattle.rules.specs.declared.Network.{Network}
 use Rattle.rules.specs.declared.Packet.{Packet}
-use Rattle.rules.specs.declared.Verdict.{Verdict}
 use Rattle.rules.specs.declared.Verdict.the-variants.{Accepted, Refused}
-use Rattle.rules.specs.declared.Step.{Step}
 use Rattle.rules.specs.declared.Step.the-variants.{Moved}
 use Rattle.rules.specs.declared.Kind.{Kind}
 use Rattle.rules.specs.declared.Kind.the-variants as change
@@ -20,16 +18,16 @@ use Rattle.rules.specs.declared.LengthAnswer.{LengthAnswer}
 use Rattle.rules.specs.declared.LengthAnswer.the-variants as long
 use Rattle.rules.specs.declared.RunAnswer.{RunAnswer}
 use Rattle.rules.specs.declared.RunAnswer.the-variants as ran
-use Rattle.rules.specs.Limits.{homeRecords, rowWeights, fileLength, tablesLength, mostHops, trailRoom, longest}
+use Rattle.rules.specs.Limits.{homeRecords, rowWeights, mostHops, longest}
 use Rattle.rules.specs.File.{Set, encode, headerOf, setOf}
-use Rattle.rules.specs.Isolation.{neighbours, home, isolated, backbone, class, Class, Normal, rowInForce, hopWeight, usable, normalHop}
-use Rattle.rules.specs.Distance.{Path, LeastTotal, distance, nextHop, candidate, alternate, tableBytes}
-use Rattle.rules.specs.Forwarding.{Fault, nothing, link, nodes, faultOf, failed, up, Tables, tablesOf, packet, step, Run, hops, trail, run}
+use Rattle.rules.specs.Isolation.{neighbours, home, isolated, backbone, class, Normal, rowInForce, hopWeight, usable, normalHop}
+use Rattle.rules.specs.Distance.{Path, LeastTotal, distance, nextHop, candidate, alternate}
+use Rattle.rules.specs.Forwarding.{Fault, nothing, link, nodes, faultOf, failed, up, tablesOf, packet, step, Run, hops, trail, run}
 use Rattle.rules.specs.Building.{firstFit, fits, highest, built, buildNumber}
 use Rattle.rules.specs.Judgement.{judge, check}
 use Rattle.rules.specs.Report.{detectedLink, detection, runUnder}
 use Rattle.rules.specs.Answers.{refused}
-use Rattle.rules.specs.Entries.{Entry, Promise, Lists, lists, readEntry, WriteInput, writeEntry, checkEntry, BuildInput, buildEntry, tablesEntry, stepEntry, RunInput, RunLent, runEntry, reportEntry}
+use Rattle.rules.specs.Entries.{Entry, Promise, Lists, lists, readEntry, writeEntry, checkEntry, BuildInput, buildEntry, tablesEntry, stepEntry, RunInput, RunLent, runEntry, reportEntry}
 
 -- ==== Demand 1. "Every entry takes every input. What is outside the written limits is refused by number and place, nothing lent is altered, no caller
 -- has to check first." No entry has a `requires`; of its promise:

@@ -2,12 +2,12 @@
 use mathlib.Core.Bool.{Bool, true, false, not, _&&_}
 use mathlib.Core.Path.{_≡_}
 use mathlib.Core.List.{List, _++_}
-use Prim.Native.Nat.{ℕ, zero, suc, _+_, _-_, _*_, _≤_, _<_}
+use Prim.Native.Nat.{ℕ, zero, suc, _+_, _-_, _≤_, _<_}
 use lib.Dec.{eqb}
 use lib.ListN.{getD}
 use Rattle.rules.specs.Basics.{if_then_else_, lowest, least, upTo, flat}
 use Rattle.rules.specs.File.{Set}
-use Rattle.rules.specs.Isolation.{home, neighbours, hopWeight, usable, class, Class, Restricted, linkBetween, isolated}
+use Rattle.rules.specs.Isolation.{home, neighbours, hopWeight, usable, class, Class, Restricted, linkBetween}
 
 -- ---- "The distance from u to t in a topology is the least total weight over all paths of usable links."
 

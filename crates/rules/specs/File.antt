@@ -1,6 +1,6 @@
 -- 01, 'The file'.
 use mathlib.Core.List.{List, [], _∷_, _++_}
-use Prim.Native.Nat.{ℕ, zero, suc, _+_, _*_, _/_, _%_}
+use Prim.Native.Nat.{ℕ, suc, _+_, _*_, _/_, _%_}
 use lib.ListN.{getD}
 use Rattle.rules.specs.declared.Network.{Network}
 use Rattle.rules.specs.Basics.{upTo, flat}

@@ -1,7 +1,7 @@
 -- 01, 'Refusal numbers': the judgement of a file's bytes, and the parts of the order that follow it.
-use mathlib.Core.Bool.{Bool, true, false, _&&_, _||_}
+use mathlib.Core.Bool.{Bool, true, _&&_, _||_}
 use mathlib.Core.List.{List}
-use Prim.Native.Nat.{ℕ, zero, suc, _+_, _*_}
+use Prim.Native.Nat.{ℕ, zero, suc, _+_}
 use lib.Dec.{eqb, ltb, leb}
 use lib.ListN.{length, getD}
 use Rattle.rules.specs.declared.Network.{Network}
@@ -11,7 +11,7 @@ use Rattle.rules.specs.declared.Failure.the-variants.{Nothing, Link, Nod
 use Rattle.rules.specs.declared.Verdict.{Verdict}
 use Rattle.rules.specs.declared.Verdict.the-variants.{Accepted, Refused}
 use Rattle.rules.specs.Basics.{if_then_else_, need, all}
-use Rattle.rules.specs.Limits.{needCounts, headerLength, homeRecords, linkPlace, homePlace, rowPlace, rowWeights, fileLength}
+use Rattle.rules.specs.Limits.{needCounts, headerLength, homeRecords, linkPlace, homePlace, rowPlace, fileLength}
 use Rattle.rules.specs.File.{Set, headerOf, endA, endB, linkWeight, homeNode, homeTopology, rowTopology, rowWeight, setOf}
 use Rattle.rules.specs.Isolation.{classBy, weightFits, topologyNumber}
 use Rattle.rules.specs.Building.{buildNumber}

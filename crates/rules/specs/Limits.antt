@@ -1,6 +1,5 @@
 -- 01, 'Numbers that bound it'.
-use mathlib.Core.Bool.{Bool, true, false}
-use Prim.Native.Nat.{ℕ, zero, suc, _+_, _*_, _-_}
+use Prim.Native.Nat.{ℕ, _+_, _*_, _-_}
 use lib.Dec.{eqb, leb}
 use Rattle.rules.specs.declared.Network.{Network}
 use Rattle.rules.specs.declared.Longest.{Longest}

@@ -3,16 +3,15 @@
 // hops and the alternates of the nodes whose home it is are taken while they are at hand. All room to work in is local.
 use rules::Network;
 ghost use mathlib.Core.Path.{_≡_};
-ghost use Prim.Native.Nat.{ℕ, suc, _+_, _*_, _≤_, _<_};
-ghost use mathlib.Core.List.{List, []};
-ghost use lib.ListN.{length, getD};
+ghost use Prim.Native.Nat.{_+_, _*_, _≤_, _<_};
+ghost use lib.ListN.{length};
 ghost use Rattle.rules.specs.Basics.{upTo, flat};
 ghost use Rattle.rules.specs.Limits.{restrictedWeight, tablesLength};
 ghost use Rattle.rules.specs.Distance.{tableBytes};
 ghost use Rattle.rules.specs.Demands.{AcceptedSet};
 ghost use Rattle.rules.specs.Entries.{lists, setWith};
 ghost use Rattle.routes.specs.Costs.{cost};
-ghost use Rattle.tables.specs.Stages.{hopTable, entriesOf, Ready, AlternatesBelow, Work, Added, AddedAt, AllAdded, Roomy, entry};
+ghost use Rattle.tables.specs.Stages.{entriesOf, Ready, AlternatesBelow, Work, Added, AddedAt, AllAdded, Roomy, entry};
 
 fn product(x: u32, y: u32) -> u32
     requires { ⌜ (x ≤ 256) × (y < 65536) ⌝ }

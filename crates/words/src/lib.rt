@@ -2,7 +2,7 @@
 // of its name; who is in the result, how many ones a word has and which is its lowest stand as laws in proofs/, in terms of
 // the definitions of 01. A node is below 32 here.
 ghost use mathlib.Core.Path.{_≡_};
-ghost use Prim.Native.Nat.{ℕ, _<_, _≤_};
+ghost use Prim.Native.Nat.{_<_, _≤_};
 ghost use lib.Count.{ones};
 ghost use Rattle.words.specs.Word.{has, both, either, minus, only, adding, removing, firsts, lowestIn, put};
 
