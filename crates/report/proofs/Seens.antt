@@ -21,10 +21,10 @@ use Rattle.rules.specs.Distance.{nextHop}
 use Rattle.rules.specs.Forwarding.{link, faultOf, up, tablesOf, entryPlace, lentTables, packet, step, hops, run}
 use Rattle.rules.specs.Report.{kindOf, packetOf, detectedLink, detection, runUnder, backupHops, plainHops, extraHops}
 use Rattle.rules.proofs.Held.{net-held}
-use Rattle.rules.proofs.Checked.{checked-set}
+use Rattle.rules.proofs.Checked.{checked-file, checked-set}
 use Rattle.rules.proofs.Runs.{starts}
 use Rattle.rules.proofs.Lent.{Agree, lent-agree, step-same, run-same}
-use Rattle.forwarding.specs.Hop.{on, tablesAt, stepAt}
+use Rattle.forwarding.specs.Hop.{Judged, on, tablesAt, stepAt}
 use Rattle.forwarding.specs.Trip.{runAt, journeyOf, RunsAs}
 use Rattle.report.specs.Lines.{Ready, Pair, seenBy}
 
@@ -66,6 +66,9 @@ first-table tables net u t row x e d = d ∙ ap (λ (r : ℕ). getD tables (r + 
 -- ---- by the file's own tables
 
 module _ (s tables : List ℕ) (net : Network) (R : Ready s net tables) where
+  pub ready-judged : Judged s net
+  ready-judged = record { accepted = checked-file s (R .accepted); header = R .header }
+
   pub same-net : net ≡ setOf s .net
   same-net = R .header ∙ sym (net-held s)
 
@@ -118,4 +121,4 @@ module _ (s tables : List ℕ) (net : Network) (R : Ready s net tables) where
 pub over-none : (x y : ℕ) → x < y → 0 ≡ x - y
 over-none x y h = omega arith
 
-pub ruleset seens = (kind-delivered, kind-moved, kind-dropped, packet-delivered, packet-moved, packet-dropped, first-table, hops-of, seen-of, over-none)
+pub ruleset seens = (ready-judged, kind-delivered, kind-moved, kind-dropped, packet-delivered, packet-moved, packet-dropped, first-table, hops-of, seen-of, over-none)

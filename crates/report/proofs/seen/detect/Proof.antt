@@ -10,7 +10,7 @@ link-between-requires : tie.Need-link-between-requires
 link-between-requires c κs = search needs
 
 take-requires : tie.Need-take-requires
-take-requires c κs = search needs
+take-requires c κs = search seens
 
 packet-of-requires : tie.Need-packet-of-requires
 packet-of-requires c κs = search needs

@@ -15,7 +15,7 @@ slice-aggregate-travel c = search needs
 
 travel-requires : tie.Need-travel-requires
 unfolding mostHops
-travel-requires c κs = search needs
+travel-requires c κs = (search seens, search needs)
 
 returns : tie.Need-returns
 returns c = search seens
