@@ -1,13 +1,12 @@
 -- The graph of a file's set, read off the bytes: which link joins two nodes, a node's home, which hops are up.
 use mathlib.Core.Path.{_≡_, refl, sym, ap, ap₂, subst, _∙_}
-use mathlib.Core.Logic.{_⊎_, inl, inr}
 use mathlib.Core.Bool.{Bool, true, false, not, _&&_, _||_}
 use mathlib.Core.List.{List}
 use Prim.Native.Nat.{ℕ, _+_, _≤_, _<_}
 use native.Mathlib.Omega.{arith}
 use lib.Dec.{eqb, ltb}
 use lib.ListN.{List·getD-eq-default}
-use borrow.Author.Tests.{eq-eqb, ne-eqb, eqb-true, eqb-false}
+use borrow.Author.Tests.{eq-eqb, ne-eqb, eqb-true, eqb-false, lt-ltb}
 use Rattle.rules.specs.declared.Network.{Network}
 use Rattle.rules.specs.declared.Failure.{Failure}
 use Rattle.rules.specs.declared.Failure.the-variants.{Nothing, Link, Node}
@@ -16,11 +15,13 @@ use Rattle.rules.specs.Limits.{homeRecords}
 use Rattle.rules.specs.File.{headerOf, setOf, endA, endB, homeTopology}
 use Rattle.rules.specs.Isolation.{joins, linkBetween, neighbours, home}
 use Rattle.rules.specs.Forwarding.{faultOf, up}
-use Rattle.rules.proofs.Choices.{clash}
-use Rattle.rules.proofs.Numbers.{lowest-ext, lowest-is, lowest-one, lowest-none}
+use Rattle.rules.proofs.Choices.{same-test}
+use Rattle.rules.proofs.Numbers.{lowest-ext, lowest-one, lowest-none}
 use Rattle.rules.proofs.Rows.{length-upTo, getD-upTo}
 use Rattle.rules.proofs.Held.{net-held}
-use Rattle.forwarding.specs.Hop.{joinsAt, on}
+use Rattle.rules.proofs.Accepted.{judged}
+use Rattle.rules.proofs.Links.{Ends, joins-ends, ends-join, link-ends, link-is}
+use Rattle.forwarding.specs.Hop.{Judged, joinsAt, on}
 
 -- ---- tests
 
@@ -44,9 +45,9 @@ module _ (s : List ℕ) where
   joins-is u w l h =
       ap₂ (λ (a b : ℕ). (eqb a u && eqb b w) || (eqb a w && eqb b u)) (getD-upTo (endA s) (headerOf s .m) l 0 h) (getD-upTo (endB s) (headerOf s .m) l 0 h)
 
-  link-is : (u w : ℕ) → linkBetween (setOf s) u w ≡ lowest (joinsAt s u w) (headerOf s .m) (headerOf s .m)
+  link-first : (u w : ℕ) → linkBetween (setOf s) u w ≡ lowest (joinsAt s u w) (headerOf s .m) (headerOf s .m)
   unfolding linkBetween
-  link-is u w =
+  link-first u w =
       ap (λ (h : Network). lowest (λ l. joins (setOf s) l u w) (h .m) (h .m)) (net-held s)
       ∙ lowest-ext (λ l. joins (setOf s) l u w) (joinsAt s u w) (headerOf s .m) (headerOf s .m) (joins-is u w)
 
@@ -77,12 +78,12 @@ module _ (s : List ℕ) where
   pub sought-found : (u w l : ℕ) (h : Network) (t : Bool) → h ≡ headerOf s → Sought u w (h .m) l → l < h .m → t ≡ joinsAt s u w l → t ≡ true → l ≡ linkBetween (setOf s) u w
   sought-found u w l h t n q g e d =
       let r : l < headerOf s .m = subst (λ (k : Network). l < k .m) n g in
-      sym (link-is u w ∙ lowest-one (joinsAt s u w) (headerOf s .m) (headerOf s .m) l r (sym e ∙ d) (q .before))
+      sym (link-first u w ∙ lowest-one (joinsAt s u w) (headerOf s .m) (headerOf s .m) l r (sym e ∙ d) (q .before))
 
   pub sought-out : (u w l : ℕ) (h : Network) → h ≡ headerOf s → Sought u w (h .m) l → h .m ≤ l → h .m ≡ linkBetween (setOf s) u w
   sought-out u w l h n q g =
       let r : headerOf s .m ≤ l = subst (λ (k : Network). k .m ≤ l) n g in
-      ap (λ (k : Network). k .m) n ∙ sym (link-is u w ∙ lowest-none (joinsAt s u w) (headerOf s .m) (headerOf s .m) (λ x y. q .before x (omega arith)))
+      ap (λ (k : Network). k .m) n ∙ sym (link-first u w ∙ lowest-none (joinsAt s u w) (headerOf s .m) (headerOf s .m) (λ x y. q .before x (omega arith)))
 
   pub near-is : (u w l : ℕ) (h : Network) → h ≡ headerOf s → l ≡ linkBetween (setOf s) u w → ltb l (h .m) ≡ neighbours (setOf s) u w
   unfolding neighbours
@@ -108,16 +109,24 @@ module _ (s : List ℕ) where
   unfolding up faultOf
   up-nothing f u w e = rw e
 
-  -- a link of the file that does not join u and w is not the one between them
-  pub link-other : (u w l : ℕ) (h : Network) (t : Bool) → h ≡ headerOf s → l < h .m → t ≡ joinsAt s u w l → not t ≡ true → true ≡ not (eqb (linkBetween (setOf s) u w) l)
-  link-other u w l h t n g e d = rw (link-is u w, ne-eqb x l (λ i. differs i (lowest-is (joinsAt s u w) (headerOf s .m) (headerOf s .m))))
+  -- a link of an accepted file joins u and w just where it is the one between them
+  pub link-told : (u w l : ℕ) (h : Network) (t : Bool) → Judged s h → l < h .m → t ≡ joinsAt s u w l → not t ≡ not (eqb (linkBetween (setOf s) u w) l)
+  link-told u w l h t J g e = ap not (e ∙ sym (joins-is u w l here) ∙ same-test (joins (setOf s) l u w) (eqb (linkBetween (setOf s) u w) l) it back)
     where
-      x : ℕ
-      x = lowest (joinsAt s u w) (headerOf s .m) (headerOf s .m)
+      here : l < headerOf s .m
+      here = subst (λ (k : Network). l < k .m) (J .header) g
 
-      differs : x ≡ l → (x ≡ headerOf s .m) ⊎ ((x < headerOf s .m) × (joinsAt s u w x ≡ true)) → ⊥
-      differs i (inl q) = let r : l < headerOf s .m = subst (λ (k : Network). l < k .m) n g in omega arith
-      differs i (inr q) = clash (not t) d (ap not (e ∙ subst (λ (y : ℕ). joinsAt s u w y ≡ true) i (q .1)))
+      inside : l < setOf s .net .m
+      inside = rw (net-held s) here
+
+      it : joins (setOf s) l u w ≡ true → eqb (linkBetween (setOf s) u w) l ≡ true
+      it q = eq-eqb (linkBetween (setOf s) u w) l (link-is (setOf s) (judged s (J .accepted) .rules) l u w inside (joins-ends (setOf s) l u w q))
+
+      back : eqb (linkBetween (setOf s) u w) l ≡ true → joins (setOf s) l u w ≡ true
+      back q =
+          let i : linkBetween (setOf s) u w ≡ l = eqb-true (linkBetween (setOf s) u w) l q in
+          let near : neighbours (setOf s) u w ≡ true = sym (near-is u w l h (J .header) (sym i)) ∙ lt-ltb l (h .m) g in
+          ends-join (setOf s) l u w (subst (λ (x : ℕ). Ends (setOf s) x u w) i (link-ends (setOf s) u w near))
 
   pub link-same : (u w l x : ℕ) → x ≡ linkBetween (setOf s) u w → not (eqb x l) ≡ not (eqb (linkBetween (setOf s) u w) l)
   link-same u w l x e = rw e
@@ -130,4 +139,4 @@ module _ (s : List ℕ) where
   unfolding up faultOf
   up-node f u w v t e d = rw e d
 
-pub ruleset graph = (pair-yes, pair-no, neither-first, neither-second, joins-forth, joins-back, sought-none, sought-more, sought-found, sought-out, near-is, home-is, home-none, up-nothing, link-other, link-same, up-link, up-node)
+pub ruleset graph = (pair-yes, pair-no, neither-first, neither-second, joins-forth, joins-back, sought-none, sought-more, sought-found, sought-out, near-is, home-is, home-none, up-nothing, link-told, link-same, up-link, up-node)

@@ -27,10 +27,10 @@ use Rattle.rules.specs.Demands.{WithinLimits}
 use Rattle.rules.proofs.Choices.{need-ok, refuse-zero, then-first, then-second}
 use Rattle.rules.proofs.Rows.{prefix-long}
 use Rattle.rules.proofs.Held.{net-held}
-use Rattle.rules.proofs.Checked.{checked-set}
+use Rattle.rules.proofs.Checked.{checked-file, checked-set}
 use Rattle.rules.proofs.Lent.{bytes-long, lent-agree, run-same}
 use Rattle.rules.proofs.Runs.{Within}
-use Rattle.forwarding.specs.Hop.{on}
+use Rattle.forwarding.specs.Hop.{Judged, on}
 use Rattle.forwarding.specs.Trip.{runAt, journeyOf, RunsAs, runInput, runLent, runVerdict, Ready, Ran}
 
 -- ---- the run by a set's own tables
@@ -62,6 +62,9 @@ tables-fit s start tables nodes h bytes e n R = rw (e, n) (R .long)
 
 pub tables-part : (s : List ℕ) (start : Packet) (tables nodes : List ℕ) (h : Network) (bytes : ℕ) → bytes ≡ tablesLength h → h ≡ headerOf s → Ready s start tables nodes → length (take bytes tables) ≡ tablesLength h
 tables-part s start tables nodes h bytes e n R = length-take-le bytes tables (tables-fit s start tables nodes h bytes e n R) ∙ e
+
+pub run-judged : (s : List ℕ) (start : Packet) (tables nodes : List ℕ) (h : Network) → h ≡ headerOf s → Ready s start tables nodes → Judged s h
+run-judged s start tables nodes h n R = record { accepted = checked-file s (R .set); header = n }
 
 pub is-set : (s : List ℕ) (start : Packet) (tables nodes : List ℕ) → Ready s start tables nodes → check s ≡ Accepted
 is-set s start tables nodes R = R .set
@@ -129,4 +132,4 @@ module _ (s : List ℕ) (u t : ℕ) (f : Failure) (tables nodes : List ℕ) wher
       let z : runEntry .verdict (runInput s u t f) (runLent tables nodes) ≡ Refused number place = verdict-same ∙ sym d ∙ e in
       record { answer = rw z; lent = rw z }
 
-pub ruleset running = (nodes-low, nodes-high, prefix-long, tables-fit, tables-part, is-set, trail-fits, run-made, run-verdict-is, run-ready, run-ended, run-refused)
+pub ruleset running = (nodes-low, nodes-high, prefix-long, tables-fit, tables-part, run-judged, is-set, trail-fits, run-made, run-verdict-is, run-ready, run-ended, run-refused)

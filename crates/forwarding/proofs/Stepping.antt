@@ -18,10 +18,18 @@ use Rattle.rules.specs.File.{headerOf}
 use Rattle.rules.specs.Judgement.{refuse, andThen, judge, needSet, needPacket, needSource, needRoom}
 use Rattle.rules.specs.Answers.{tell, stepTells}
 use Rattle.rules.specs.Entries.{Promise, onAccept, lookupsOf, stepOf, stepEntry}
-use Rattle.rules.proofs.Choices.{then-on, then-stop}
-use Rattle.forwarding.specs.Hop.{stepAt, lookupAt, stepInput, stepRest, stepVerdict}
+use Rattle.rules.proofs.Choices.{then-first, then-on, then-stop}
+use Rattle.forwarding.specs.Hop.{Judged, stepAt, lookupAt, stepInput, stepRest, stepVerdict}
+
+-- the judge accepted the file
+pub judge-on : (s : List ℕ) (u : Verdict) (h : Network) → u ≡ judge s → u ≡ Accepted → h ≡ headerOf s → Judged s h
+judge-on s u h e t n = record { accepted = sym e ∙ t; header = n }
 
 module _ (s tables : List ℕ) (p : Packet) (f : Failure) where
+  pub step-on : (u : Verdict) (h : Network) → u ≡ stepVerdict (stepInput s tables p f) → u ≡ Accepted → h ≡ headerOf s → Judged s h
+  unfolding stepVerdict
+  step-on u h e t n = record { accepted = then-first (judge s) (stepRest (stepInput s tables p f)) (sym e ∙ t); header = n }
+
   -- the five verdicts that follow the judge's, as the code has them
   pub rest-is : (h : Network) (set range source room lookups a b c v : Verdict) (long number : ℕ) → h ≡ headerOf s → set ≡ needSet h → range ≡ needPacket h p f → source ≡ needSource (p .place) f
       → long ≡ tablesLength h → room ≡ refuse (need (leb long (length tables)) 14 0) 0 → number ≡ lookupAt s tables f p → lookups ≡ refuse number 0
@@ -53,4 +61,4 @@ module _ (s tables : List ℕ) (p : Packet) (f : Failure) where
       let z : stepEntry .verdict (stepInput s tables p f) tt ≡ Refused number place = verdict-same ∙ sym e ∙ t in
       record { answer = rw z; lent = refl }
 
-pub ruleset stepping = (rest-is, verdict-on, verdict-stop, step-taken, step-refused)
+pub ruleset stepping = (judge-on, step-on, rest-is, verdict-on, verdict-stop, step-taken, step-refused)

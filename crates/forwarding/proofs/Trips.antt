@@ -68,12 +68,12 @@ laid-over v w new (x ∷ l) = refl
 -- ---- the run
 
 module _ (s tables : List ℕ) (f : Failure) where
-  run-delivered : (m : ℕ) (p q : Packet) → stepAt s tables f p ≡ Delivered q → runAt s tables f m p ≡ stop q ended.Delivered
+  pub run-delivered : (m : ℕ) (p q : Packet) → stepAt s tables f p ≡ Delivered q → runAt s tables f m p ≡ stop q ended.Delivered
   unfolding runAt stepAt run afterStep
   run-delivered zero p q e = rw e
   run-delivered (suc m) p q e = rw e
 
-  run-dropped : (m : ℕ) (p q : Packet) → stepAt s tables f p ≡ Dropped q → runAt s tables f m p ≡ stop q ended.Dropped
+  pub run-dropped : (m : ℕ) (p q : Packet) → stepAt s tables f p ≡ Dropped q → runAt s tables f m p ≡ stop q ended.Dropped
   unfolding runAt stepAt run afterStep
   run-dropped zero p q e = rw e
   run-dropped (suc m) p q e = rw e
@@ -82,7 +82,7 @@ module _ (s tables : List ℕ) (f : Failure) where
   unfolding runAt stepAt run afterStep
   run-under-way p q k e = rw e
 
-  run-moved : (m : ℕ) (p q : Packet) (k : Kind) → stepAt s tables f p ≡ Moved q k → runAt s tables f (suc m) p ≡ onward (q .place) k (runAt s tables f m q)
+  pub run-moved : (m : ℕ) (p q : Packet) (k : Kind) → stepAt s tables f p ≡ Moved q k → runAt s tables f (suc m) p ≡ onward (q .place) k (runAt s tables f m q)
   unfolding runAt stepAt run afterStep
   run-moved m p q k e = rw e
 

@@ -1,4 +1,5 @@
-// One hop of a packet by value, in the order of 01's rule. `net` is the header of `file`, and `tables` are read as they are.
+// One hop of a packet by value, in the order of 01's rule. `net` is the header of `file`, which the judge accepts where the
+// contract says `Judged`, and `tables` are read as they are.
 use housefile::byte;
 use housefile::end_a;
 use housefile::end_b;
@@ -20,7 +21,7 @@ ghost use Rattle.rules.specs.File.{headerOf, setOf};
 ghost use Rattle.rules.specs.Isolation.{linkBetween, neighbours, home};
 ghost use Rattle.rules.specs.Basics.{need};
 ghost use Rattle.rules.specs.Forwarding.{entryPlace, moveOrDrop, changeTo, blocked, toward, alternateNumber, changeNumber};
-ghost use Rattle.forwarding.specs.Hop.{joinsAt, on, tablesAt, kindBy, onwardNumber, stepAt, lookupAt};
+ghost use Rattle.forwarding.specs.Hop.{Judged, joinsAt, on, tablesAt, kindBy, onwardNumber, stepAt, lookupAt};
 
 // ---- the graph
 
@@ -87,24 +88,22 @@ pub fn home(file: &[u8], net: Network, v: u8) -> u8
 
 // ---- what is down
 
-// The link between u and w is not l, which is down. Where l does not join them, its own record tells, and the other links are
-// not looked through.
+// The link between u and w is not l, which is down. A link's own record tells: no other joins the same two nodes, so the rest
+// are looked through only where l is no link of the file.
 fn link_up(file: &[u8], net: Network, l: u16, u: u8, w: u8) -> bool
-    requires { ⌜ net ≡ headerOf (now file) ⌝ }
+    requires { ⌜ Judged (now file) net ⌝ }
     ensures { λ r. ⌜ r ≡ not (eqb (linkBetween (setOf (now (file .entry))) u w) l) ⌝ }
 {
     if l < net.m {
         let joined = joins(file, l as usize, u, w);
-        if !joined {
-            return true;
-        }
+        return !joined;
     }
     link_between(file, net, u, w) != l
 }
 
 // The hop from u to w is up.
 pub fn is_up(file: &[u8], net: Network, failure: Failure, u: u8, w: u8) -> bool
-    requires { ⌜ net ≡ headerOf (now file) ⌝ }
+    requires { ⌜ Judged (now file) net ⌝ }
     ensures { λ r. ⌜ r ≡ on (now (file .entry)) failure u w ⌝ }
 {
     match failure {
@@ -148,7 +147,7 @@ fn move_or_drop(
     j: u8,
     kind: Kind,
 ) -> Step
-    requires { ⌜ net ≡ headerOf (now file) ⌝ }
+    requires { ⌜ Judged (now file) net ⌝ }
     ensures { λ r. ⌜ r ≡ moveOrDrop (on (now (file .entry)) failure) p w j kind ⌝ }
 {
     let up = is_up(file, net, failure, p.place, w);
@@ -183,7 +182,7 @@ fn change_to(
     v: u8,
     w: u8,
 ) -> Step
-    requires { ⌜ net ≡ headerOf (now file) ⌝ }
+    requires { ⌜ Judged (now file) net ⌝ }
     ensures { λ r. ⌜ r ≡ changeTo (setOf (now (file .entry))) (tablesAt (now (file .entry)) (now (tables .entry))) (on (now (file .entry)) failure) p v w ⌝ }
 {
     if w == v {
@@ -198,7 +197,7 @@ fn change_to(
 
 // v is the next hop, and the hop to it is down.
 fn blocked(file: &[u8], net: Network, tables: &[u8], failure: Failure, p: Packet, v: u8) -> Step
-    requires { ⌜ net ≡ headerOf (now file) ⌝ }
+    requires { ⌜ Judged (now file) net ⌝ }
     ensures { λ r. ⌜ r ≡ blocked (setOf (now (file .entry))) (tablesAt (now (file .entry)) (now (tables .entry))) (on (now (file .entry)) failure) p v ⌝ }
 {
     if p.topology == 0 {
@@ -211,7 +210,7 @@ fn blocked(file: &[u8], net: Network, tables: &[u8], failure: Failure, p: Packet
 
 // v is the next hop.
 fn toward(file: &[u8], net: Network, tables: &[u8], failure: Failure, p: Packet, v: u8) -> Step
-    requires { ⌜ net ≡ headerOf (now file) ⌝ }
+    requires { ⌜ Judged (now file) net ⌝ }
     ensures { λ r. ⌜ r ≡ toward (setOf (now (file .entry))) (tablesAt (now (file .entry)) (now (tables .entry))) (on (now (file .entry)) failure) p v ⌝ }
 {
     let up = is_up(file, net, failure, p.place, v);
@@ -228,7 +227,7 @@ fn toward(file: &[u8], net: Network, tables: &[u8], failure: Failure, p: Packet,
 
 // One hop of the packet, by the tables as they are.
 pub fn take(file: &[u8], net: Network, tables: &[u8], failure: Failure, p: Packet) -> Step
-    requires { ⌜ net ≡ headerOf (now file) ⌝ }
+    requires { ⌜ Judged (now file) net ⌝ }
     ensures { λ r. ⌜ r ≡ stepAt (now (file .entry)) (now (tables .entry)) failure p ⌝ }
 {
     if p.place == p.destination {
@@ -273,7 +272,7 @@ fn change_number(file: &[u8], net: Network, tables: &[u8], p: Packet, v: u8, w: 
 
 // What is looked up once v is the next hop: nothing where the hop is up or the packet is in a backup topology.
 fn onward_number(file: &[u8], net: Network, tables: &[u8], failure: Failure, p: Packet, v: u8) -> u8
-    requires { ⌜ net ≡ headerOf (now file) ⌝ }
+    requires { ⌜ Judged (now file) net ⌝ }
     ensures { λ r. ⌜ r ≡ onwardNumber (now (file .entry)) (now (tables .entry)) failure p v ⌝ }
 {
     let up = is_up(file, net, failure, p.place, v);
@@ -290,7 +289,7 @@ fn onward_number(file: &[u8], net: Network, tables: &[u8], failure: Failure, p: 
 
 // 15 where an entry that the hop looks up is no neighbour, else 0.
 pub fn lookup_number(file: &[u8], net: Network, tables: &[u8], failure: Failure, p: Packet) -> u8
-    requires { ⌜ net ≡ headerOf (now file) ⌝ }
+    requires { ⌜ Judged (now file) net ⌝ }
     ensures { λ r. ⌜ r ≡ lookupAt (now (file .entry)) (now (tables .entry)) failure p ⌝ }
 {
     if p.place == p.destination {

@@ -29,13 +29,13 @@ ghost use mathlib.Core.Path.{_≡_};
 ghost use Rattle.rules.specs.File.{headerOf};
 ghost use Rattle.rules.specs.Entries.{Promise, stepEntry, runEntry};
 ghost use Rattle.forwarding.specs.Trip.{runInput, runLent, runVerdict, Ready, Ran};
-ghost use Rattle.forwarding.specs.Hop.{stepInput, stepRest, stepVerdict};
+ghost use Rattle.forwarding.specs.Hop.{Judged, stepInput, stepRest, stepVerdict};
 
 // ---- step
 
 // What is asked once the file is accepted: 13, 11, 12, 14, 15.
 fn step_rest(file: &[u8], net: Network, tables: &[u8], packet: Packet, failure: Failure) -> Verdict
-    requires { ⌜ net ≡ headerOf (now file) ⌝ }
+    requires { ⌜ Judged (now file) net ⌝ }
     ensures { λ r. ⌜ r ≡ stepRest (stepInput (now (file .entry)) (now (tables .entry)) packet failure) ⌝ }
 {
     let set = need_set(net);

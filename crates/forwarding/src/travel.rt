@@ -10,8 +10,8 @@ use rules::Step;
 ghost use mathlib.Core.Path.{_≡_};
 ghost use Prim.Native.Nat.{_+_, _<_};
 ghost use lib.ListN.{length};
-ghost use Rattle.rules.specs.File.{headerOf};
 ghost use Rattle.rules.specs.Forwarding.{firstKind};
+ghost use Rattle.forwarding.specs.Hop.{Judged};
 ghost use Rattle.forwarding.specs.Trip.{RunsAs, Begun, Visited};
 
 // The kind of the first change: the one there was, or else this hop's.
@@ -65,7 +65,7 @@ fn go_on(
     most: u8,
     trail: &mut [u8],
 ) -> Journey
-    requires { ⌜ net ≡ headerOf (now file) ⌝ }
+    requires { ⌜ Judged (now file) net ⌝ }
     requires { ⌜ Begun start most (now trail) ⌝ }
     ensures { λ r. ⌜ RunsAs (now (file .entry)) (now (tables .entry)) failure start most (now (trail .entry)) r (now (trail .exit)) ⌝ }
 {
@@ -104,7 +104,7 @@ pub fn travel(
     most: u8,
     trail: &mut [u8],
 ) -> Journey
-    requires { ⌜ net ≡ headerOf (now file) ⌝ }
+    requires { ⌜ Judged (now file) net ⌝ }
     requires { ⌜ most < length (now trail) ⌝ }
     ensures { λ r. ⌜ RunsAs (now (file .entry)) (now (tables .entry)) failure start most (now (trail .entry)) r (now (trail .exit)) ⌝ }
 {

@@ -1,7 +1,8 @@
 -- What the code looks up and runs by the file's own tables is what the rules say of its set.
 use mathlib.Core.Path.{_≡_, sym, ap, ap₂, subst, _∙_}
+use mathlib.Core.Bool.{Bool}
 use mathlib.Core.List.{List}
-use Prim.Native.Nat.{ℕ, _+_, _-_, _*_, _<_}
+use Prim.Native.Nat.{ℕ, zero, suc, _+_, _-_, _*_, _≤_, _<_}
 use native.Mathlib.Nat.{zero-mul, zero-add}
 use native.Mathlib.Omega.{arith}
 use lib.ListN.{getD}
@@ -14,19 +15,21 @@ use Rattle.rules.specs.declared.Kind.the-variants as change
 use Rattle.rules.specs.declared.Step.{Step}
 use Rattle.rules.specs.declared.Step.the-variants.{Delivered, Moved, Dropped}
 use Rattle.rules.specs.declared.Journey.{Journey}
+use Rattle.rules.specs.declared.Outcome.the-variants as ended
 use Rattle.rules.specs.Limits.{mostHops}
-use Rattle.rules.specs.File.{setOf}
+use Rattle.rules.specs.File.{Set, setOf}
 use Rattle.rules.specs.Isolation.{linkBetween}
 use Rattle.rules.specs.Distance.{nextHop}
-use Rattle.rules.specs.Forwarding.{link, faultOf, up, tablesOf, entryPlace, lentTables, packet, step, hops, run}
+use Rattle.rules.specs.Forwarding.{link, faultOf, up, Tables, tablesOf, entryPlace, lentTables, packet, step, hops, stop, onward, afterStep, run}
 use Rattle.rules.specs.Report.{kindOf, packetOf, detectedLink, detection, runUnder, backupHops, plainHops, extraHops}
 use Rattle.rules.proofs.Held.{net-held}
-use Rattle.rules.proofs.Checked.{checked-set}
+use Rattle.rules.proofs.Checked.{checked-file, checked-set}
 use Rattle.rules.proofs.Runs.{starts}
 use Rattle.rules.proofs.Lent.{Agree, lent-agree, step-same, run-same}
-use Rattle.forwarding.specs.Hop.{on, tablesAt, stepAt}
+use Rattle.forwarding.specs.Hop.{Judged, on, tablesAt, stepAt}
 use Rattle.forwarding.specs.Trip.{runAt, journeyOf, RunsAs}
-use Rattle.report.specs.Lines.{Ready, Pair, seenBy}
+use Rattle.forwarding.proofs.Trips.{run-delivered, run-dropped, run-moved}
+use Rattle.report.specs.Lines.{Ready, Pair, Counted, seenBy}
 
 -- ---- the parts of a step
 
@@ -63,9 +66,36 @@ first-table tables net u t row x e d = d ∙ ap (λ (r : ℕ). getD tables (r + 
     z : 0 * (net .n * net .n) + (u * net .n + t) ≡ u * net .n + t
     z = rw (zero-mul, zero-add)
 
+-- ---- the hops of a run
+
+-- no more than are allowed
+hops-most : (S : Set) (tables : Tables) (on : ℕ → ℕ → Bool) (most : ℕ) (p : Packet) → hops (run S tables on most p) ≤ most
+unfolding hops run afterStep stop onward
+hops-most S tables on zero p = go (step S tables on p)
+  where
+    go : (st : Step) → hops (afterStep st (λ q kind. stop p ended.UnderWay)) ≤ 0
+    go (Delivered q) = omega arith
+    go (Dropped q) = omega arith
+    go (Moved q kind) = omega arith
+hops-most S tables on (suc most) p = go (step S tables on p) (hops-most S tables on most)
+  where
+    go : (st : Step) → ((q : Packet) → hops (run S tables on most q) ≤ most) → hops (afterStep st (λ q kind. onward (q .place) kind (run S tables on most q))) ≤ suc most
+    go (Delivered q) fewer = omega arith
+    go (Dropped q) fewer = omega arith
+    go (Moved q kind) fewer = omega (arith, fewer q)
+
+pub run-counted : (s tables : List ℕ) (f : Failure) (p : Packet) (most : ℕ) (old new : List ℕ) (j : Journey) → RunsAs s tables f p most old j new → Counted s tables f p most (j .hops)
+unfolding runAt journeyOf
+run-counted s tables f p most old new j W =
+    let e : j .hops ≡ hops (runAt s tables f most p) = ap (λ (x : Journey). x .hops) (W .answer) in
+    record { is = e; few = rw e (hops-most (setOf s) (tablesAt s tables) (on s f) most p) }
+
 -- ---- by the file's own tables
 
 module _ (s tables : List ℕ) (net : Network) (R : Ready s net tables) where
+  pub ready-judged : Judged s net
+  ready-judged = record { accepted = checked-file s (R .accepted); header = R .header }
+
   pub same-net : net ≡ setOf s .net
   same-net = R .header ∙ sym (net-held s)
 
@@ -89,14 +119,34 @@ module _ (s tables : List ℕ) (net : Network) (R : Ready s net tables) where
       let A = checked-set s (R .accepted) in
       step-same (setOf s) A (on s f) (tablesAt s tables) agree (packet u t 0) (starts (setOf s) A (on s f) u t (in-set u (P .node)) (in-set t (P .end)))
 
-  pub hops-of : (f : Failure) (u t most : ℕ) (j : Journey) (old new : List ℕ) → Pair net u t → most ≡ mostHops net → RunsAs s tables f (packet u t 0) most old j new
-      → j .hops ≡ hops (runUnder (setOf s) (faultOf f) u t)
-  unfolding runUnder runAt journeyOf
-  hops-of f u t most j old new P e w =
+  same-run : (f : Failure) (u t : ℕ) → Pair net u t → runAt s tables f (mostHops net) (packet u t 0) ≡ runUnder (setOf s) (faultOf f) u t
+  unfolding runUnder runAt
+  same-run f u t P =
       let A = checked-set s (R .accepted) in
-      ap (λ (x : Journey). x .hops) (w .answer)
-      ∙ ap (λ (m : ℕ). hops (run (setOf s) (tablesAt s tables) (on s f) m (packet u t 0))) (e ∙ ap mostHops same-net)
-      ∙ ap hops (run-same (setOf s) A (on s f) (tablesAt s tables) agree (mostHops (setOf s .net)) (packet u t 0) (starts (setOf s) A (on s f) u t (in-set u (P .node)) (in-set t (P .end))))
+      ap (λ (h : Network). run (setOf s) (tablesAt s tables) (on s f) (mostHops h) (packet u t 0)) same-net
+      ∙ run-same (setOf s) A (on s f) (tablesAt s tables) agree (mostHops (setOf s .net)) (packet u t 0) (starts (setOf s) A (on s f) u t (in-set u (P .node)) (in-set t (P .end)))
+
+  pub hops-whole : (f : Failure) (u t most r : ℕ) → Pair net u t → most ≡ mostHops net → Counted s tables f (packet u t 0) most r → r ≡ hops (runUnder (setOf s) (faultOf f) u t)
+  hops-whole f u t most r P e C = C .is ∙ ap (λ (m : ℕ). hops (runAt s tables f m (packet u t 0))) e ∙ ap hops (same-run f u t P)
+
+  -- by the run's first step
+  module _ (f : Failure) (u t : ℕ) (st : Step) (P : Pair net u t) (d : st ≡ stepAt s tables f (packet u t 0)) where
+    pub hops-delivered : (q : Packet) → st ≡ Delivered q → 0 ≡ hops (runUnder (setOf s) (faultOf f) u t)
+    unfolding hops stop
+    hops-delivered q e = sym (ap hops (sym (same-run f u t P) ∙ run-delivered s tables f (mostHops net) (packet u t 0) q (sym d ∙ e)))
+
+    pub hops-dropped : (q : Packet) → st ≡ Dropped q → 0 ≡ hops (runUnder (setOf s) (faultOf f) u t)
+    unfolding hops stop
+    hops-dropped q e = sym (ap hops (sym (same-run f u t P) ∙ run-dropped s tables f (mostHops net) (packet u t 0) q (sym d ∙ e)))
+
+    pub hops-moved : (q : Packet) (k : Kind) (most r : ℕ) → st ≡ Moved q k → most ≡ mostHops net → Counted s tables f q (most - 1) r → r + 1 ≡ hops (runUnder (setOf s) (faultOf f) u t)
+    unfolding hops onward mostHops
+    hops-moved q k most r e m C =
+        let one : mostHops net ≡ suc (most - 1) = omega (arith, R .least) in
+        let w : runUnder (setOf s) (faultOf f) u t ≡ onward (q .place) k (runAt s tables f (most - 1) q) =
+        sym (same-run f u t P) ∙ ap (λ (x : ℕ). runAt s tables f x (packet u t 0)) one ∙ run-moved s tables f (most - 1) (packet u t 0) q k (sym d ∙ e)
+        in
+        omega (arith, C .is, ap hops w)
 
   pub seen-of : (u t via l back plain extra : ℕ) (st : Step) (p : Packet) (kind : Kind) → Pair net u t
       → via ≡ getD tables (entryPlace net 0 u t) 0 → l ≡ linkBetween (setOf s) u via → st ≡ stepAt s tables (Link l) (packet u t 0)
@@ -118,4 +168,4 @@ module _ (s tables : List ℕ) (net : Network) (R : Ready s net tables) where
 pub over-none : (x y : ℕ) → x < y → 0 ≡ x - y
 over-none x y h = omega arith
 
-pub ruleset seens = (kind-delivered, kind-moved, kind-dropped, packet-delivered, packet-moved, packet-dropped, first-table, hops-of, seen-of, over-none)
+pub ruleset seens = (ready-judged, kind-delivered, kind-moved, kind-dropped, packet-delivered, packet-moved, packet-dropped, first-table, run-counted, hops-whole, hops-delivered, hops-dropped, hops-moved, seen-of, over-none)

@@ -4,13 +4,17 @@ use mathlib.Core.List.{List, [], _∷_, _++_}
 use Prim.Native.Nat.{ℕ, _-_, _*_, _≤_, _<_}
 use lib.Dec.{eqb}
 use Rattle.rules.specs.declared.Network.{Network}
+use Rattle.rules.specs.declared.Packet.{Packet}
+use Rattle.rules.specs.declared.Failure.{Failure}
 use Rattle.rules.specs.declared.Verdict.the-variants.{Accepted}
 use Rattle.rules.specs.declared.Kind.{Kind}
 use Rattle.rules.specs.Basics.{if_then_else_, flat, laid}
 use Rattle.rules.specs.File.{Set, headerOf, setOf}
 use Rattle.rules.specs.Distance.{nextHop, tableBytes}
+use Rattle.rules.specs.Forwarding.{hops}
 use Rattle.rules.specs.Judgement.{check}
 use Rattle.rules.specs.Report.{decimal, space, newline, letter, kindOf, packetOf, detection, backupHops, extraHops, detectionLine}
+use Rattle.forwarding.specs.Trip.{runAt}
 use Rattle.report.specs.Text.{field}
 use Rattle.report.specs.declared.seen.Seen.{Seen}
 
@@ -27,6 +31,11 @@ pub record Ready (s : List ℕ) (net : Network) (tables : List ℕ) : Type 0 whe
 pub record Pair (net : Network) (u t : ℕ) : Type 0 where
   pub node : u < net .n
   pub end : t < net .n
+
+-- the hops of the run from p by these tables, of at most so many
+pub record Counted (s tables : List ℕ) (f : Failure) (p : Packet) (most r : ℕ) : Type 0 where
+  pub is : r ≡ hops (runAt s tables f most p)
+  pub few : r ≤ most
 
 -- what node u sees of a packet for t where the link to its next hop is down
 unfoldable pub seenBy : Set → ℕ → ℕ → Seen

@@ -12,12 +12,14 @@ use rules::Network;
 use rules::Packet;
 use rules::Step;
 ghost use mathlib.Core.Path.{_≡_};
-ghost use Prim.Native.Nat.{_-_};
+ghost use Prim.Native.Nat.{_-_, _<_};
 ghost use lib.ListN.{length, getD};
 ghost use Rattle.rules.specs.File.{setOf};
-ghost use Rattle.rules.specs.Forwarding.{faultOf, entryPlace, hops};
+ghost use Rattle.rules.specs.declared.Failure.the-variants.{Nothing};
+ghost use Rattle.rules.specs.Forwarding.{faultOf, entryPlace, packet, hops};
 ghost use Rattle.rules.specs.Report.{kindOf, packetOf, runUnder};
-ghost use Rattle.report.specs.Lines.{Ready, Pair, seenBy};
+ghost use Rattle.forwarding.specs.Hop.{stepAt};
+ghost use Rattle.report.specs.Lines.{Ready, Pair, Counted, seenBy};
 
 // The fields of a line after its node and destination.
 pub struct Seen {
@@ -66,11 +68,22 @@ fn trail_room() -> [u8; Network::LONGEST_TRAIL]
     [0; Network::LONGEST_TRAIL]
 }
 
-// How many hops a packet makes from u to t under this failure.
-fn hops_under(file: &[u8], net: Network, tables: &[u8], failure: Failure, u: u8, t: u8) -> u8
+// How many hops a packet makes by the tables under this failure, of at most so many.
+fn hops_from(file: &[u8], net: Network, tables: &[u8], failure: Failure, p: Packet, most: u8) -> u8
+    requires { ⌜ Ready (now file) net (now tables) ⌝ }
+    requires { ⌜ most < 62 ⌝ }
+    ensures { λ r. ⌜ Counted (now (file .entry)) (now (tables .entry)) failure p most r ⌝ }
+{
+    let mut trail = trail_room();
+    let j = travel(file, net, tables, failure, p, most, &mut trail);
+    j.hops
+}
+
+// How many hops a packet makes from u to t with nothing down.
+fn plain_hops(file: &[u8], net: Network, tables: &[u8], u: u8, t: u8) -> u8
     requires { ⌜ Ready (now file) net (now tables) ⌝ }
     requires { ⌜ Pair net u t ⌝ }
-    ensures { λ r. ⌜ r ≡ hops (runUnder (setOf (now (file .entry))) (faultOf failure) u t) ⌝ }
+    ensures { λ r. ⌜ r ≡ hops (runUnder (setOf (now (file .entry))) (faultOf Nothing) u t) ⌝ }
 {
     let start = Packet {
         place: u,
@@ -78,9 +91,33 @@ fn hops_under(file: &[u8], net: Network, tables: &[u8], failure: Failure, u: u8,
         topology: 0,
     };
     let most = most_hops(net);
-    let mut trail = trail_room();
-    let j = travel(file, net, tables, failure, start, most, &mut trail);
-    j.hops
+    hops_from(file, net, tables, Failure::Nothing, start, most)
+}
+
+// How many hops a packet makes from u to t under this failure; s, its first step, is not taken again.
+fn hops_after(
+    file: &[u8],
+    net: Network,
+    tables: &[u8],
+    failure: Failure,
+    u: u8,
+    t: u8,
+    s: Step,
+) -> u8
+    requires { ⌜ Ready (now file) net (now tables) ⌝ }
+    requires { ⌜ Pair net u t ⌝ }
+    requires { ⌜ s ≡ stepAt (now file) (now tables) failure (packet u t 0) ⌝ }
+    ensures { λ r. ⌜ r ≡ hops (runUnder (setOf (now (file .entry))) (faultOf failure) u t) ⌝ }
+{
+    match s {
+        Step::Delivered(_) => 0,
+        Step::Dropped(_) => 0,
+        Step::Moved(p, _) => {
+            let most = most_hops(net);
+            let rest = hops_from(file, net, tables, failure, p, most - 1);
+            rest + 1
+        }
+    }
 }
 
 // How much x is over y, or 0.
@@ -109,8 +146,8 @@ pub fn detect(file: &[u8], net: Network, tables: &[u8], u: u8, t: u8) -> Seen
     let s = take(file, net, tables, down, start);
     let p = packet_of(s);
     let kind = kind_of(s);
-    let hops = hops_under(file, net, tables, down, u, t);
-    let plain = hops_under(file, net, tables, Failure::Nothing, u, t);
+    let hops = hops_after(file, net, tables, down, u, t, s);
+    let plain = plain_hops(file, net, tables, u, t);
     let extra = over(hops, plain);
     Seen {
         via,

@@ -1,23 +1,21 @@
 -- The distances that the passes leave are the published ones, for the costs of an accepted set's links.
-use Prim.Native.Nat.{ℕ, zero, suc, _+_, _-_, _*_, _≤_, _<_}
-use native.Mathlib.Nat.{eq-or-lt-of-le, le-of-suc-le-suc}
+use Prim.Native.Nat.{ℕ, zero, suc, _+_, _-_, _≤_, _<_}
 use native.Mathlib.Omega.{arith}
 use mathlib.Core.Path.{_≡_, refl, sym, ap, ap₂, _∙_}
 use mathlib.Core.Bool.{Bool, true, false}
-use mathlib.Core.Logic.{inl, inr, ⊎-elim}
+use mathlib.Core.Logic.{inl, inr}
 use mathlib.Core.List.{List, [], _∷_}
 use lib.ListN.{length, getD}
 use lib.Seq.{ext-getD}
 use Rattle.rules.specs.Basics.{upTo}
 use Rattle.rules.specs.Limits.{restrictedWeight}
 use Rattle.rules.specs.File.{Set}
-use Rattle.rules.specs.Isolation.{joins, linkBetween, isolated, Class, classBy, class, weightBy, weightFrom, rowInForce, hopWeight, usable, neighbours}
+use Rattle.rules.specs.Isolation.{linkBetween, isolated, Class, classBy, class, weightBy, weightFrom, rowInForce, hopWeight, usable, neighbours}
 use Rattle.rules.specs.Distance.{far, distances, distance, totals, longer, nextHop}
-use Rattle.rules.specs.Demands.{AcceptedSet, MeetsRules}
-use Rattle.rules.proofs.Choices.{false-of, if-yes}
-use Rattle.rules.proofs.Numbers.{lowest-one}
+use Rattle.rules.specs.Demands.{AcceptedSet}
+use Rattle.rules.proofs.Choices.{if-yes}
 use Rattle.rules.proofs.Rows.{length-upTo, getD-upTo}
-use Rattle.rules.proofs.Links.{Ends, joins-ends, ends-join, link-below, link-ends, ends-neighbours, class-ends, hop-neighbours, hop-out, hop-into, hop-plain, usable-hop, hop-usable, hop-normal, hop-light, restricted-bound}
+use Rattle.rules.proofs.Links.{Ends, link-is, link-below, link-ends, ends-neighbours, class-ends, hop-neighbours, hop-out, hop-into, hop-plain, usable-hop, hop-usable, hop-normal, hop-light, restricted-bound}
 use Rattle.rules.proofs.Distances.{distance-far}
 use Rattle.rules.proofs.Reach.{some-weight, distance-self, distance-over}
 use Rattle.rules.proofs.NextHops.{next}
@@ -26,42 +24,6 @@ use Rattle.routes.specs.Passes.{Net, netOf, Wired, settled}
 use Rattle.routes.specs.Costs.{costBy, cost, Distances}
 use Rattle.routes.proofs.Lanes.{column-at, column-long}
 use Rattle.routes.proofs.Passes.{Leads, Exact, Inside, Between, settled-between, settled-reach}
-
--- ---- "at most one link per pair"
-
-module _ (S : Set) (M : MeetsRules S) where
-  -- a link's place in the order
-  key : ℕ → ℕ
-  key l = 32 * getD (S .a) l 0 + getD (S .b) l 0
-
-  key-step : (l : ℕ) → suc l < S .net .m → key l < key (suc l)
-  unfolding key
-  key-step l h =
-      let few = M .limits .nodes .1 in
-      let e = M .ends l (omega arith) in
-      let f = M .ends (suc l) h in
-      ⊎-elim (λ (p : getD (S .a) l 0 < getD (S .a) (suc l) 0). omega (arith, e .1, few))
-      (λ (p : (getD (S .a) l 0 ≡ getD (S .a) (suc l) 0) × (getD (S .b) l 0 < getD (S .b) (suc l) 0)). omega (arith, p .0, p .1))
-      (M .order l h)
-
-  key-lt : (j l : ℕ) → l < j → j < S .net .m → key l < key j
-  key-lt zero l h g = absurd (omega arith)
-  key-lt (suc j) l h g =
-      ⊎-elim (λ (e : l ≡ j). rw e (key-step j g)) (λ (p : l < j). omega (arith, key-lt j l p (omega arith), key-step j g)) (eq-or-lt-of-le (le-of-suc-le-suc h))
-
-  -- two links with the same ends have the same place
-  key-same : (l j u w : ℕ) → l < S .net .m → j < S .net .m → Ends S l u w → Ends S j u w → key l ≡ key j
-  unfolding key
-  key-same l j u w hl hj (inl e) (inl f) = omega (arith, e .0, e .1, f .0, f .1)
-  key-same l j u w hl hj (inr e) (inr f) = omega (arith, e .0, e .1, f .0, f .1)
-  key-same l j u w hl hj (inl e) (inr f) = absurd (omega (arith, e .0, e .1, f .0, f .1, M .ends l hl .0, M .ends j hj .0))
-  key-same l j u w hl hj (inr e) (inl f) = absurd (omega (arith, e .0, e .1, f .0, f .1, M .ends l hl .0, M .ends j hj .0))
-
-  pub link-is : (l u w : ℕ) → l < S .net .m → Ends S l u w → linkBetween S u w ≡ l
-  unfolding linkBetween
-  link-is l u w h e =
-      lowest-one (λ x. joins S x u w) (S .net .m) (S .net .m) l h (ends-join S l u w e)
-      (λ j g. false-of (joins S j u w) (λ q. let lj : j < S .net .m = omega arith in omega (arith, key-lt l j g h, key-same j l u w lj h (joins-ends S j u w q) e)))
 
 -- ---- the list of distances
 

@@ -1,9 +1,9 @@
 -- Laws of links: the link between two nodes, its class by their homes, and the weight of the hop, for a set that meets the rules.
 use mathlib.Core.Path.{_≡_, refl, ap, ap₂, _∙_}
-use mathlib.Core.Logic.{_⊎_, inl, inr}
+use mathlib.Core.Logic.{_⊎_, inl, inr, ⊎-elim}
 use mathlib.Core.Bool.{Bool, true, false, _&&_}
-use Prim.Native.Nat.{ℕ, zero, suc, _-_, _≤_, _<_}
-use native.Mathlib.Nat.{mul-le-mul-right}
+use Prim.Native.Nat.{ℕ, zero, suc, _+_, _-_, _*_, _≤_, _<_}
+use native.Mathlib.Nat.{mul-le-mul-right, eq-or-lt-of-le, le-of-suc-le-suc}
 use native.Mathlib.Omega.{arith}
 use lib.Dec.{eqb}
 use lib.ListN.{getD}
@@ -15,7 +15,7 @@ use Rattle.rules.specs.File.{Set}
 use Rattle.rules.specs.Isolation.{joins, linkBetween, neighbours, isolated, Class, Normal, classBy, class, rowInForce, weightBy, weightFrom, hopWeight, usable}
 use Rattle.rules.specs.Demands.{MeetsRules}
 use Rattle.rules.proofs.Choices.{and-of, and-left, and-right, or-left, or-right, or-cases, if-yes, if-no, same-test, false-of}
-use Rattle.rules.proofs.Numbers.{lowest-found, lowest-is, lowest-ext}
+use Rattle.rules.proofs.Numbers.{lowest-found, lowest-is, lowest-ext, lowest-one}
 
 -- u and w are link l's ends, in either order
 abbrev pub Ends : Set → ℕ → ℕ → ℕ → Type 0
@@ -161,6 +161,41 @@ module _ (S : Set) where
 -- ---- a set that meets the rules
 
 module _ (S : Set) (M : MeetsRules S) where
+  -- ---- "at most one link per pair"
+
+  -- a link's place in the order
+  key : ℕ → ℕ
+  key l = 32 * getD (S .a) l 0 + getD (S .b) l 0
+
+  key-step : (l : ℕ) → suc l < S .net .m → key l < key (suc l)
+  unfolding key
+  key-step l h =
+      let few = M .limits .nodes .1 in
+      let e = M .ends l (omega arith) in
+      let f = M .ends (suc l) h in
+      ⊎-elim (λ (p : getD (S .a) l 0 < getD (S .a) (suc l) 0). omega (arith, e .1, few))
+      (λ (p : (getD (S .a) l 0 ≡ getD (S .a) (suc l) 0) × (getD (S .b) l 0 < getD (S .b) (suc l) 0)). omega (arith, p .0, p .1))
+      (M .order l h)
+
+  key-lt : (j l : ℕ) → l < j → j < S .net .m → key l < key j
+  key-lt zero l h g = absurd (omega arith)
+  key-lt (suc j) l h g =
+      ⊎-elim (λ (e : l ≡ j). rw e (key-step j g)) (λ (p : l < j). omega (arith, key-lt j l p (omega arith), key-step j g)) (eq-or-lt-of-le (le-of-suc-le-suc h))
+
+  -- two links with the same ends have the same place
+  key-same : (l j u w : ℕ) → l < S .net .m → j < S .net .m → Ends S l u w → Ends S j u w → key l ≡ key j
+  unfolding key
+  key-same l j u w hl hj (inl e) (inl f) = omega (arith, e .0, e .1, f .0, f .1)
+  key-same l j u w hl hj (inr e) (inr f) = omega (arith, e .0, e .1, f .0, f .1)
+  key-same l j u w hl hj (inl e) (inr f) = absurd (omega (arith, e .0, e .1, f .0, f .1, M .ends l hl .0, M .ends j hj .0))
+  key-same l j u w hl hj (inr e) (inl f) = absurd (omega (arith, e .0, e .1, f .0, f .1, M .ends l hl .0, M .ends j hj .0))
+
+  pub link-is : (l u w : ℕ) → l < S .net .m → Ends S l u w → linkBetween S u w ≡ l
+  unfolding linkBetween
+  link-is l u w h e =
+      lowest-one (λ x. joins S x u w) (S .net .m) (S .net .m) l h (ends-join S l u w e)
+      (λ j g. false-of (joins S j u w) (λ q. let lj : j < S .net .m = omega arith in omega (arith, key-lt l j g h, key-same j l u w lj h (joins-ends S j u w q) e)))
+
   pub neighbours-below : (u w : ℕ) → neighbours S u w ≡ true → (u < S .net .n) × (w < S .net .n)
   neighbours-below u w e = go (link-ends S u w e)
     where

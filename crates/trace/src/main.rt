@@ -20,6 +20,8 @@ use rules::Step;
 use rules::Verdict;
 ghost use mathlib.Core.Path.{_≡_};
 ghost use lib.ListN.{length};
+ghost use Rattle.rules.specs.declared.Verdict.the-variants.{Accepted};
+ghost use Rattle.rules.specs.Judgement.{judge};
 
 // Room for the longest tables.
 fn tables_room() -> [u8; Network::LONGEST_TABLES]
@@ -38,13 +40,17 @@ fn trail_room() -> [u8; Network::LONGEST_TRAIL]
 // ---- the hops
 
 // One hop, by the tables that the run left.
-fn hop(file: &[u8], tables: &[u8], failure: Failure, p: Packet) -> Step {
+fn hop(file: &[u8], tables: &[u8], failure: Failure, p: Packet) -> Step
+    requires { ⌜ judge (now file) ≡ Accepted ⌝ }
+{
     let net = housefile::header(file);
     forwarding::hop::take(file, net, tables, failure, p)
 }
 
 // One hop and its line; the packet after it.
-fn seen(file: &[u8], tables: &[u8], failure: Failure, p: Packet) -> Packet {
+fn seen(file: &[u8], tables: &[u8], failure: Failure, p: Packet) -> Packet
+    requires { ⌜ judge (now file) ≡ Accepted ⌝ }
+{
     let step = hop(file, tables, failure, p);
     match step {
         Step::Moved(q, kind) => {
@@ -56,7 +62,9 @@ fn seen(file: &[u8], tables: &[u8], failure: Failure, p: Packet) -> Packet {
     }
 }
 
-fn hops(file: &[u8], tables: &[u8], failure: Failure, start: Packet, count: u8) -> Packet {
+fn hops(file: &[u8], tables: &[u8], failure: Failure, start: Packet, count: u8) -> Packet
+    requires { ⌜ judge (now file) ≡ Accepted ⌝ }
+{
     let mut p = start;
     let mut i: u8 = 0;
     while i < count {
@@ -66,7 +74,9 @@ fn hops(file: &[u8], tables: &[u8], failure: Failure, start: Packet, count: u8) 
     p
 }
 
-fn ended(file: &[u8], tables: &[u8], failure: Failure, q: Question, j: Journey) {
+fn ended(file: &[u8], tables: &[u8], failure: Failure, q: Question, j: Journey)
+    requires { ⌜ judge (now file) ≡ Accepted ⌝ }
+{
     let start = Packet {
         place: q.source,
         destination: q.destination,
@@ -78,7 +88,9 @@ fn ended(file: &[u8], tables: &[u8], failure: Failure, q: Question, j: Journey) 
 
 // ---- the run
 
-fn run_into(file: &[u8], q: Question, failure: Failure, tables: &mut [u8], trail: &mut [u8]) {
+fn run_into(file: &[u8], q: Question, failure: Failure, tables: &mut [u8], trail: &mut [u8])
+    requires { ⌜ judge (now file) ≡ Accepted ⌝ }
+{
     let r = forwarding::run(file, q.source, q.destination, failure, tables, trail);
     match r {
         RunAnswer::Ended(j) => ended(file, tables, failure, q, j),
@@ -86,14 +98,18 @@ fn run_into(file: &[u8], q: Question, failure: Failure, tables: &mut [u8], trail
     }
 }
 
-fn run(file: &[u8], q: Question, failure: Failure) {
+fn run(file: &[u8], q: Question, failure: Failure)
+    requires { ⌜ judge (now file) ≡ Accepted ⌝ }
+{
     let mut tables = tables_room();
     let mut trail = trail_room();
     run_into(file, q, failure, &mut tables, &mut trail);
 }
 
 // The failed link by its two ends.
-fn run_link(file: &[u8], q: Question, a: u8, b: u8) {
+fn run_link(file: &[u8], q: Question, a: u8, b: u8)
+    requires { ⌜ judge (now file) ≡ Accepted ⌝ }
+{
     let net = housefile::header(file);
     let l = forwarding::hop::link_between(file, net, a, b);
     if l < net.m {
@@ -103,7 +119,9 @@ fn run_link(file: &[u8], q: Question, a: u8, b: u8) {
     show::no_link(a, b);
 }
 
-fn answer(file: &[u8], q: Question) {
+fn answer(file: &[u8], q: Question)
+    requires { ⌜ judge (now file) ≡ Accepted ⌝ }
+{
     let down = q.down;
     match down {
         Down::Nothing => run(file, q, Failure::Nothing),

@@ -19,7 +19,7 @@ most-hops-requires : tie.Need-most-hops-requires
 most-hops-requires c κs = (search running, search running)
 
 travel-requires : tie.Need-travel-requires
-travel-requires c κs = (search needs, search running)
+travel-requires c κs = (search running, search running)
 
 same-length : tie.Need-same-length
 same-length c = search needs

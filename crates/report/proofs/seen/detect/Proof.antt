@@ -10,7 +10,7 @@ link-between-requires : tie.Need-link-between-requires
 link-between-requires c κs = search needs
 
 take-requires : tie.Need-take-requires
-take-requires c κs = search needs
+take-requires c κs = search seens
 
 packet-of-requires : tie.Need-packet-of-requires
 packet-of-requires c κs = search needs
@@ -18,11 +18,11 @@ packet-of-requires c κs = search needs
 kind-of-requires : tie.Need-kind-of-requires
 kind-of-requires c κs = search needs
 
-hops-under-requires : tie.Need-hops-under-requires
-hops-under-requires c κs = search needs
+hops-after-requires : tie.Need-hops-after-requires
+hops-after-requires c κs = search needs
 
-hops-under-requires-2 : tie.Need-hops-under-requires-2
-hops-under-requires-2 c κs = search needs
+plain-hops-requires : tie.Need-plain-hops-requires
+plain-hops-requires c κs = search needs
 
 over-requires : tie.Need-over-requires
 over-requires c κs = search needs
@@ -39,7 +39,7 @@ detect-spec =
     take-requires
     packet-of-requires
     kind-of-requires
-    hops-under-requires
-    hops-under-requires-2
+    hops-after-requires
+    plain-hops-requires
     over-requires
     returns)
