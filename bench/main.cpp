@@ -117,6 +117,25 @@ static void over_tests(const char *what) {
     for (const Size &size : graph_sizes) row(size, size.variety, ways);
 }
 
+static size_t one_pass(const Set &s, uint8_t *) {
+    size_t sum = 0;
+    for (uint8_t byte : s.file) sum = sum * 31 + byte;
+    return sum;
+}
+
+// Entries that no peer has, beside one pass over the file's bytes.
+static void without_peers() {
+    const vector<Set> largest{make_set(set_sizes[0], 0)};
+    const vector<Way> ways{{"one pass over the bytes with a multiply each, for comparison", one_pass},
+                           {"`read`: judged, and read into lists", our_read},
+                           {"`check`: judged and checked", our_check},
+                           {"`run`, its tables among it", our_run}};
+    vector<double> times = least(ways, largest);
+    std::printf("\n### Other entries, on the longest file (n, m, k = %s: %zu bytes)\n\n| | microseconds |\n|---|---|\n", label(set_sizes[0]).c_str(),
+                largest[0].file.size());
+    for (size_t w = 0; w < ways.size(); w++) std::printf("| %s | %.1f |\n", ways[w].name, times[w]);
+}
+
 int main() {
     std::printf("Peers: by hand, Boost Graph %s, LEMON %s, igraph %s. ", boost_release().c_str(), lemon_release().c_str(), igraph_release().c_str());
     std::printf("Microseconds of one call; in brackets, how many times the proved entry's.\n");
@@ -126,4 +145,5 @@ int main() {
     bar("Different sets in turn", tables[3], tables[4], 2);
     over_engines("Report", our_report, peer_report);
     over_tests("Build");
+    without_peers();
 }

@@ -1,10 +1,9 @@
 -- One hop as the code takes it, test by test: each return is the published rule's.
-use mathlib.Core.Path.{_≡_, refl, sym, ap, ap₂, subst, _∙_}
-use mathlib.Core.Bool.{Bool, true, false, not, _&&_, _||_}
+use mathlib.Core.Path.{_≡_, refl, sym, ap, ap₂, _∙_}
+use mathlib.Core.Bool.{Bool, true, false, not, _||_}
 use mathlib.Core.List.{List}
-use Prim.Native.Nat.{ℕ, zero, suc, _+_, _*_, _≤_, _<_}
-use native.Mathlib.Omega.{arith}
-use lib.Dec.{eqb, ltb}
+use Prim.Native.Nat.{ℕ, _+_, _*_}
+use lib.Dec.{eqb}
 use lib.ListN.{getD}
 use borrow.Author.Tests.{eq-eqb, ne-eqb}
 use Rattle.rules.specs.declared.Network.{Network}
@@ -14,10 +13,10 @@ use Rattle.rules.specs.declared.Kind.{Kind}
 use Rattle.rules.specs.declared.Kind.the-variants as change
 use Rattle.rules.specs.declared.Step.{Step}
 use Rattle.rules.specs.declared.Step.the-variants.{Delivered, Moved, Dropped}
-use Rattle.rules.specs.Basics.{if_then_else_, need}
+use Rattle.rules.specs.Basics.{need}
 use Rattle.rules.specs.File.{headerOf, setOf}
 use Rattle.rules.specs.Isolation.{neighbours, home}
-use Rattle.rules.specs.Forwarding.{Tables, entryPlace, lentTables, packet, moveOrDrop, changeTo, blocked, toward, step, alternateNumber, changeNumber, towardNumber, lookupNumber}
+use Rattle.rules.specs.Forwarding.{entryPlace, lentTables, packet, moveOrDrop, changeTo, blocked, toward, step, alternateNumber, changeNumber, towardNumber, lookupNumber}
 use Rattle.rules.proofs.Choices.{if-yes, if-no, need-yes, need-no}
 use Rattle.forwarding.specs.Hop.{on, tablesAt, kindBy, onwardNumber, stepAt, lookupAt}
 

@@ -1,17 +1,15 @@
 -- What the passes leave: the distances, whatever these are, by three facts of them.
-use Prim.Native.Nat.{ℕ, zero, suc, _+_, _≤_, _<_, min, zero-le}
+use Prim.Native.Nat.{ℕ, zero, suc, _+_, _≤_, _<_, min}
 use native.Mathlib.Nat.{le-refl, eq-or-lt-of-le, le-of-suc-le-suc, le-antisymm}
-use native.Mathlib.Numerals.{add-one}
 use native.Mathlib.Omega.{arith}
 use mathlib.Core.Path.{_≡_, refl, sym, ap, subst, _∙_}
-use mathlib.Core.Bool.{Bool, true, false}
 use mathlib.Core.Logic.{_⊎_, inl, inr, ⊎-elim}
 use mathlib.Core.List.{List, []}
 use lib.Dec.{ltb}
 use lib.ListN.{length, getD, set, length-set, List·getD-eq-default}
-use lib.Seq.{getD-set-same, getD-set-other}
+use lib.Seq.{getD-set-other}
 use borrow.Author.Tests.{le-ltb, lt-ltb}
-use Rattle.rules.specs.Basics.{if_then_else_, upTo}
+use Rattle.rules.specs.Basics.{upTo}
 use Rattle.rules.specs.Distance.{far}
 use Rattle.rules.proofs.Choices.{if-yes, if-no}
 use Rattle.rules.proofs.Rows.{length-upTo, getD-upTo}

@@ -1,17 +1,16 @@
 -- What the functions on the matrix ask of each other, and that their turns follow the definitions.
 use Prim.Native.Nat.{ℕ, zero, suc, _+_, _≤_, _<_, min}
-use native.Mathlib.Nat.{le-trans}
 use native.Mathlib.Numerals.{add-one}
 use native.Mathlib.Omega.{arith}
 use mathlib.Core.Path.{_≡_, refl, sym, ap, subst, _∙_}
 use mathlib.Core.List.{List, []}
-use lib.ListN.{length, getD, set, length-set}
+use lib.ListN.{length, getD, set}
 use lib.Seq.{getD-set-same, getD-set-other, ext-getD}
 use borrow.Author.Count.{below-more, below-none}
 use Rattle.rules.specs.Basics.{upTo}
 use Rattle.rules.specs.Distance.{far}
 use Rattle.rules.proofs.Rows.{length-upTo, getD-upTo}
-use Rattle.routes.specs.Lanes.{lanes, LowRow, unitRow, entry, LowRows}
+use Rattle.routes.specs.Lanes.{lanes, unitRow, entry, LowRows}
 use Rattle.routes.specs.Passes.{netOf, Wired, direct, directLink, directLinks, Spot, lowerRow, through, pass, passes, settled}
 use Rattle.routes.proofs.Lanes.{low-falls}
 use Rattle.routes.proofs.Passes.{direct-length, direct-le, through-far, through-near, through-length, through-low, units-low}

@@ -1,6 +1,5 @@
 -- A matrix is a list of rows, one for each node, each of 32 lanes, one for each destination. Column t of it is the list of the distances toward t.
 use Prim.Native.Nat.{ℕ, zero, suc, _+_, _≤_, _<_, min}
-use mathlib.Core.Path.{_≡_}
 use mathlib.Core.List.{List, [], map}
 use lib.ListN.{getD, set, replicate}
 use Rattle.rules.specs.Distance.{far}

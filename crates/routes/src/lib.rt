@@ -2,7 +2,7 @@
 // It promises that they are those of the definitions. Distances are a matrix with a row for each node and a lane for each destination: what
 // a node gains by going through another is one step over whole rows, and once it was tried through every node, no path is left that is shorter.
 ghost use mathlib.Core.Path.{_≡_};
-ghost use Prim.Native.Nat.{ℕ, _+_, _*_, _≤_, _<_, min};
+ghost use Prim.Native.Nat.{_+_, _*_, _≤_, _<_, min};
 ghost use lib.ListN.{length, getD};
 ghost use Rattle.rules.specs.Basics.{upTo};
 ghost use Rattle.rules.specs.Distance.{far};

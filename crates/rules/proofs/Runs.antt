@@ -2,7 +2,6 @@
 -- In topology 0 the nodes nearer to the destination and n - 2 more bound the hops that may still come, in a backup topology the nodes nearer to it; every move lessens this.
 use mathlib.Core.Path.{_≡_, refl, subst, _∙_}
 use mathlib.Core.Bool.{Bool, true, false}
-use mathlib.Core.List.{List, [], _∷_}
 use Prim.Native.Nat.{ℕ, zero, suc, _+_, _-_, _≤_, _<_}
 use native.Mathlib.Omega.{arith}
 use lib.Dec.{eqb}
