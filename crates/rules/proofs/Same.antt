@@ -17,7 +17,7 @@ use Rattle.rules.specs.File.{Set, encode, headerOf, setOf}
 use Rattle.rules.specs.Judgement.{andThen, judge, needRoom}
 use Rattle.rules.specs.Answers.{tell, headerValues, readTells, lengthTells, accepted}
 use Rattle.rules.specs.Entries.{Promise, onAccept, Lists, lists, needLists, listsWith, readEntry, WriteInput, setWith, writeEntry}
-use Rattle.rules.specs.Demands.{Bytes, SameBytes, SameLists, ReadsBack}
+use Rattle.rules.specs.Demands.{Bytes, LongLists, SameBytes, SameLists, ReadsBack}
 use Rattle.rules.proofs.Choices.{need-ok, numbers, refuse-ok, refuse-zero, then-ok, then-first, then-second}
 use Rattle.rules.proofs.Rows.{length-upTo, upTo-ext, upTo-getD, upTo-take, length-laid, getD-laid, laid-front}
 use Rattle.rules.proofs.Encoded.{encode-long, header-back}
@@ -28,13 +28,6 @@ use Rattle.rules.proofs.Fronts.{front, within, same-set, encode-within,
 use Rattle.rules.proofs.Accepted.{judged}
 
 -- ---- lists that are long enough
-
-pub record LongLists (h : Network) (d : Lists) : Type 0 where
-  pub a : h .m ≤ length (d .a)
-  pub b : h .m ≤ length (d .b)
-  pub weights : h .m ≤ length (d .weights)
-  pub homes : homeRecords h ≤ length (d .homes)
-  pub rows : h .k * rowWeights h ≤ length (d .rows)
 
 pub lists-long : (number : ℕ) (h : Network) (d : Lists) → needLists (suc number) h d ≡ Accepted → LongLists h d
 unfolding needLists

@@ -4,12 +4,20 @@ use mathlib.Core.Logic.{_↔_, _⊎_}
 use mathlib.Core.Bool.{Bool, true, false, not, _&&_}
 use mathlib.Core.List.{List, [], _∷_}
 use Prim.Native.Nat.{ℕ, suc, _+_, _-_, _*_, _≤_, _<_}
-use lib.Dec.{eqb}
-use lib.ListN.{length, getD, take}
+use lib.Dec.{eqb, ltb}
+use lib.ListN.{length, getD, set, take, drop}
 use Rattle.rules.specs.declared.Network.{Network}
 use Rattle.rules.specs.declared.Packet.{Packet}
+use Rattle.rules.specs.declared.Failure.{Failure}
+use Rattle.rules.specs.declared.Failure.the-variants.{Nothing, Link, Node}
+use Rattle.rules.specs.declared.Verdict.{Verdict}
 use Rattle.rules.specs.declared.Verdict.the-variants.{Accepted, Refused}
+use Rattle.rules.specs.declared.Step.{Step}
 use Rattle.rules.specs.declared.Step.the-variants.{Moved}
+use Rattle.rules.specs.declared.StepAnswer.{StepAnswer}
+use Rattle.rules.specs.declared.StepAnswer.the-variants as stepped
+use Rattle.rules.specs.declared.Journey.{Journey}
+use Rattle.rules.specs.declared.ReadAnswer.{ReadAnswer}
 use Rattle.rules.specs.declared.Kind.{Kind}
 use Rattle.rules.specs.declared.Kind.the-variants as change
 use Rattle.rules.specs.declared.Outcome.the-variants as ended
@@ -18,39 +26,99 @@ use Rattle.rules.specs.declared.LengthAnswer.{LengthAnswer}
 use Rattle.rules.specs.declared.LengthAnswer.the-variants as long
 use Rattle.rules.specs.declared.RunAnswer.{RunAnswer}
 use Rattle.rules.specs.declared.RunAnswer.the-variants as ran
-use Rattle.rules.specs.Limits.{homeRecords, rowWeights, mostHops, longest}
-use Rattle.rules.specs.File.{Set, encode, headerOf, setOf}
+use Rattle.rules.specs.Basics.{if_then_else_, upTo}
+use Rattle.rules.specs.Limits.{homeRecords, rowWeights, rowHeadLength, weightLength, linkPlace, homePlace, rowPlace, fileLength, tablesLength, mostHops, trailRoom, longest}
+use Rattle.rules.specs.File.{Set, encode}
 use Rattle.rules.specs.Isolation.{neighbours, home, isolated, backbone, class, Normal, rowInForce, hopWeight, usable, normalHop}
 use Rattle.rules.specs.Distance.{Path, LeastTotal, distance, nextHop, candidate, alternate}
-use Rattle.rules.specs.Forwarding.{Fault, nothing, link, nodes, faultOf, failed, up, tablesOf, packet, step, Run, hops, trail, run}
-use Rattle.rules.specs.Building.{firstFit, fits, highest, built, buildNumber}
+use Rattle.rules.specs.Forwarding.{Fault, nothing, link, nodes, faultOf, failed, up, Tables, tablesOf, entryPlace, lentTables, packet, step, Run, hops, trail, run}
+use Rattle.rules.specs.Building.{withHomes, firstFit, fits, highest, built, buildNumber}
 use Rattle.rules.specs.Judgement.{judge, check}
-use Rattle.rules.specs.Report.{detectedLink, detection, runUnder}
+use Rattle.rules.specs.Report.{detectedLink, detection, runUnder, reportText}
 use Rattle.rules.specs.Answers.{refused}
-use Rattle.rules.specs.Entries.{Entry, Promise, Lists, lists, readEntry, writeEntry, checkEntry, BuildInput, buildEntry, tablesEntry, stepEntry, RunInput, RunLent, runEntry, reportEntry}
+use Rattle.rules.specs.Entries.{Entry, Promise, NothingLent, Lists, readEntry, WriteInput, writeEntry, checkEntry, BuildInput, buildEntry, tablesEntry, StepInput, stepEntry, RunInput, RunLent, runEntry, reportEntry}
 
 -- ==== Demand 1. "Every entry takes every input. What is outside the written limits is refused by number and place, nothing lent is altered, no caller
--- has to check first." No entry has a `requires`; of its promise:
-pub record TakesEveryInput {Input Lent Answer : Type 0} (E : Entry Input Lent Answer) : Type 0 where
+-- has to check first." No entry has a `requires`; of its promise, where `lengths` are those of what it is lent:
+pub record TakesEveryInput {Input Lent Answer : Type 0} (E : Entry Input Lent Answer) (lengths : Lent → List ℕ) : Type 0 where
   -- whatever it is given and lent, the promise allows a result
   pub taken : (i : Input) (before : Lent) → (r : Answer) × (after : Lent) × Promise E i before r after
-  -- a refusal tells its number and place, and what was lent is as it came
+  -- a refusal tells its number and place
+  pub refuses : (i : Input) (before : Lent) (r : Answer) (after : Lent) (number place : ℕ) → Promise E i before r after
+      → E .verdict i before ≡ Refused number place → E .tells r ≡ refused number place
+  -- the number is one of 01's table, 1 to 15, and the place lies within the longest file
+  pub numbered : (i : Input) (before : Lent) (r : Answer) (after : Lent) (number place : ℕ) → Promise E i before r after
+      → E .tells r ≡ refused number place → (1 ≤ number) × (number ≤ 15) × (place < longest .file)
+  -- and what was lent is as it came
   pub unaltered : (i : Input) (before : Lent) (r : Answer) (after : Lent) (number place : ℕ) → Promise E i before r after
-      → E .verdict i before ≡ Refused number place → (E .tells r ≡ refused number place) × (after ≡ before)
+      → E .tells r ≡ refused number place → after ≡ before
+  -- accepted or refused, what was lent is as long as it was
+  pub kept : (i : Input) (before : Lent) (r : Answer) (after : Lent) → Promise E i before r after → lengths after ≡ lengths before
   -- two results that it allows coincide
   pub determined : (i : Input) (before : Lent) (r r′ : Answer) (after after′ : Lent) → Promise E i before r after → Promise E i before r′ after′
       → (r ≡ r′) × (after ≡ after′)
 
+-- the lengths of what is lent: nothing; one list or buffer; five lists; tables and a trail
+abbrev pub noLengths : NothingLent → List ℕ
+noLengths d = []
+
+abbrev pub itsLength : List ℕ → List ℕ
+itsLength d = length d ∷ []
+
+abbrev pub listLengths : Lists → List ℕ
+listLengths d = length (d .a) ∷ length (d .b) ∷ length (d .weights) ∷ length (d .homes) ∷ length (d .rows) ∷ []
+
+abbrev pub runLengths : RunLent → List ℕ
+runLengths d = length (d .tables) ∷ length (d .trail) ∷ []
+
 -- demand 1, of each entry
 pub record Demand1 : Type 0 where
-  pub read : TakesEveryInput readEntry
-  pub write : TakesEveryInput writeEntry
-  pub check : TakesEveryInput checkEntry
-  pub build : TakesEveryInput buildEntry
-  pub tables : TakesEveryInput tablesEntry
-  pub step : TakesEveryInput stepEntry
-  pub run : TakesEveryInput runEntry
-  pub report : TakesEveryInput reportEntry
+  pub read : TakesEveryInput readEntry listLengths
+  pub write : TakesEveryInput writeEntry itsLength
+  pub check : TakesEveryInput checkEntry noLengths
+  pub build : TakesEveryInput buildEntry itsLength
+  pub tables : TakesEveryInput tablesEntry itsLength
+  pub step : TakesEveryInput stepEntry noLengths
+  pub run : TakesEveryInput runEntry runLengths
+  pub report : TakesEveryInput reportEntry itsLength
+
+-- ==== What demands 2 and 3 say of an entry. Two statements of what it returns, in one form for all eight:
+
+-- it accepts exactly when, for some set S, `Meets` holds of what it is given and lent. `Yes` is an answer that is no refusal; `Fair` says of the input what
+-- its types say in the code, that a file's entries are bytes
+abbrev pub AcceptsExactly : {Input Lent Answer : Type 0} → Entry Input Lent Answer → (Answer → Type 0) → (Input → Type 0) → (Set → Input → Lent → Type 0) → Type 0
+AcceptsExactly {Input} {Lent} {Answer} E Yes Fair Meets =
+    (i : Input) (before after : Lent) (r : Answer) → Fair i → Promise E i before r after → Yes r ↔ ((S : Set) × Meets S i before)
+
+-- and then `Gives` holds of its answer and of what it leaves
+abbrev pub ThenGives : {Input Lent Answer : Type 0} → Entry Input Lent Answer → (Set → Input → Lent → Type 0) → (Set → Input → Lent → Answer → Lent → Type 0) → Type 0
+ThenGives {Input} {Lent} {Answer} E Meets Gives =
+    (S : Set) (i : Input) (before after : Lent) (r : Answer) → Promise E i before r after → Meets S i before → Gives S i before r after
+
+-- answers that are no refusal
+abbrev pub IsRead : ReadAnswer → Type 0
+IsRead r = (h : Network) × (r ≡ read.Read h)
+
+abbrev pub IsLength : LengthAnswer → Type 0
+IsLength r = (bytes : ℕ) × (r ≡ long.Length bytes)
+
+abbrev pub IsAccepted : Verdict → Type 0
+IsAccepted r = r ≡ Accepted
+
+abbrev pub IsTaken : StepAnswer → Type 0
+IsTaken r = (s : Step) × (r ≡ stepped.Taken s)
+
+abbrev pub IsEnded : RunAnswer → Type 0
+IsEnded r = (j : Journey) × (r ≡ ran.Ended j)
+
+-- the entries of a list are bytes
+abbrev pub Bytes : List ℕ → Type 0
+Bytes s = (i : ℕ) → i < length s → getD s i 0 < 256
+
+-- `new` stands at the front of lent room, and what lies past it is as it came
+pub record Front (new before after : List ℕ) : Type 0 where
+  pub is : take (length new) after ≡ new
+  pub rest : drop (length new) after ≡ drop (length new) before
 
 -- ==== Demand 2. "A file or set is accepted exactly when it meets the published rules."
 
@@ -87,10 +155,6 @@ pub record MeetsRules (S : Set) : Type 0 where
   -- "and 0 for each link that isn't normal in i"
   pub other : (i l : ℕ) → 1 ≤ i → i ≤ S .net .k → l < S .net .m → (class S i l ≡ Normal → ⊥) → at (rowInForce S i) l ≡ 0
 
--- the entries of a list are bytes
-abbrev pub Bytes : List ℕ → Type 0
-Bytes s = (i : ℕ) → i < length s → getD s i 0 < 256
-
 -- bytes are accepted exactly when they are the encoding of a set that meets the rules, and of one only
 abbrev pub AcceptedExactly : Type 0
 AcceptedExactly = (s : List ℕ) → Bytes s → (judge s ≡ Accepted) ↔ ((S : Set) × MeetsRules S × (encode S ≡ s))
@@ -102,6 +166,90 @@ OneSet = (S S′ : Set) → MeetsRules S → MeetsRules S′ → encode S ≡ en
 -- "The longest file is 9,192 bytes."
 abbrev pub LongestFile : Type 0
 LongestFile = (s : List ℕ) → judge s ≡ Accepted → length s ≤ 9192
+
+-- where weight x of row record j stands
+abbrev pub weightPlace : Network → ℕ → ℕ → ℕ
+weightPlace h j x = rowPlace h j + rowHeadLength + weightLength * x
+
+-- "Big-endian numbers, a two-byte mark before each record, this order, nothing between or after": the file of a set, field by field, as 01's table has it
+pub record LaidOut (S : Set) (s : List ℕ) : Type 0 where
+  -- network: mark 4E 57, then n (1 byte), m (2), k (1), wmax (2)
+  pub network : (at s 0 ≡ 0x4E) × (at s 1 ≡ 0x57) × (at s 2 ≡ S .net .n) × (256 * at s 3 + at s 4 ≡ S .net .m) × (at s 5 ≡ S .net .k)
+      × (256 * at s 6 + at s 7 ≡ S .net .wmax)
+  -- link, m times: mark 4C 4B, then a (1), b (1), weight (2)
+  pub link : (l : ℕ) → l < S .net .m
+      → (at s (linkPlace l) ≡ 0x4C) × (at s (linkPlace l + 1) ≡ 0x4B) × (at s (linkPlace l + 2) ≡ at (S .a) l) × (at s (linkPlace l + 3) ≡ at (S .b) l)
+      × (256 * at s (linkPlace l + 4) + at s (linkPlace l + 5) ≡ at (S .weights) l)
+  -- home, n times if k > 0: mark 48 4D, then node (1), topology (1)
+  pub home : (v : ℕ) → v < homeRecords (S .net)
+      → (at s (homePlace (S .net) v) ≡ 0x48) × (at s (homePlace (S .net) v + 1) ≡ 0x4D) × (at s (homePlace (S .net) v + 2) ≡ v)
+      × (at s (homePlace (S .net) v + 3) ≡ at (S .homes) v)
+  -- backup row, k times: mark 42 57, then topology (1), m weights (2 each)
+  pub row : (j : ℕ) → j < S .net .k
+      → (at s (rowPlace (S .net) j) ≡ 0x42) × (at s (rowPlace (S .net) j + 1) ≡ 0x57) × (at s (rowPlace (S .net) j + 2) ≡ suc j)
+      × ((x : ℕ) → x < rowWeights (S .net) → 256 * at s (weightPlace (S .net) j x) + at s (weightPlace (S .net) j x + 1) ≡ at (rowInForce S (suc j)) x)
+  -- nothing after
+  pub long : length s ≡ fileLength (S .net)
+
+-- every set's file is so
+abbrev pub FilesLaidOut : Type 0
+FilesLaidOut = (S : Set) → LaidOut S (encode S)
+
+-- ---- read
+
+-- these bytes are the file of S, by the rules of 01's 'The file'
+pub record FileOf (S : Set) (s : List ℕ) : Type 0 where
+  pub rules : MeetsRules S
+  pub bytes : encode S ≡ s
+
+-- each of the five lists is as long as the counts need, or longer
+pub record LongLists (h : Network) (d : Lists) : Type 0 where
+  pub a : h .m ≤ length (d .a)
+  pub b : h .m ≤ length (d .b)
+  pub weights : h .m ≤ length (d .weights)
+  pub homes : homeRecords h ≤ length (d .homes)
+  pub rows : h .k * rowWeights h ≤ length (d .rows)
+
+-- read accepts exactly when the bytes are a set's, or a graph's, and every list has room
+pub record ReadMeets (S : Set) (s : List ℕ) (d : Lists) : Type 0 where
+  pub file : FileOf S s
+  pub room : LongLists (S .net) d
+
+-- and then it answers the counts and leaves each list with the set's entries at its front
+pub record ReadGives (S : Set) (s : List ℕ) (before : Lists) (r : ReadAnswer) (after : Lists) : Type 0 where
+  pub answer : r ≡ read.Read (S .net)
+  pub a : Front (S .a) (before .a) (after .a)
+  pub b : Front (S .b) (before .b) (after .b)
+  pub weights : Front (S .weights) (before .weights) (after .weights)
+  pub homes : Front (S .homes) (before .homes) (after .homes)
+  pub rows : Front (S .rows) (before .rows) (after .rows)
+
+-- ---- write
+
+-- the set of a header and five lists, which are cut to the counts: "entries past the counts are neither written nor compared"
+unfoldable pub cutTo : Network → Lists → Set
+cutTo h d =
+    record {
+      net = h;
+      a = take (h .m) (d .a);
+      b = take (h .m) (d .b);
+      weights = take (h .m) (d .weights);
+      homes = take (homeRecords h) (d .homes);
+      rows = take (h .k * rowWeights h) (d .rows);
+    }
+
+-- write accepts exactly when the counts are within limits, the lists are long enough, the set that they are cut to meets the rules, and its file has room
+pub record WriteMeets (S : Set) (i : WriteInput) (lent : List ℕ) : Type 0 where
+  pub limits : WithinLimits (i .net)
+  pub lists : LongLists (i .net) (i .lists)
+  pub set : S ≡ cutTo (i .net) (i .lists)
+  pub rules : MeetsRules S
+  pub room : fileLength (i .net) ≤ length lent
+
+-- and then it answers the file's length and leaves the file at the front of the room
+pub record WriteGives (S : Set) (i : WriteInput) (before : List ℕ) (r : LengthAnswer) (after : List ℕ) : Type 0 where
+  pub answer : r ≡ long.Length (fileLength (S .net))
+  pub file : Front (encode S) before after
 
 -- "An accepted file written out again is the same bytes": what reading left in the lists, written into any room that is long enough
 abbrev pub SameBytes : Type 0
@@ -122,12 +270,12 @@ pub record SameLists (h : Network) (d d′ : Lists) : Type 0 where
   pub homes : Same (homeRecords h) (d .homes) (d′ .homes)
   pub rows : Same (h .k * rowWeights h) (d .rows) (d′ .rows)
 
--- "a set written out reads back as itself"; the fields have the file's widths
+-- "a set written out reads back as itself": by any reader whose lists are long enough
 abbrev pub ReadsBack : Type 0
 ReadsBack =
     (h : Network) (d : Lists) (room written : List ℕ) (bytes : ℕ) → Promise writeEntry (record { net = h; lists = d }) room (long.Length bytes) written
-    → (before after : Lists) (h′ : Network) → Promise readEntry (take bytes written) before (read.Read h′) after
-    → (h′ ≡ h) × SameLists h after d
+    → (before after : Lists) (r : ReadAnswer) → LongLists h before → Promise readEntry (take bytes written) before r after
+    → (r ≡ read.Read h) × SameLists h after d
 
 -- ---- a set
 
@@ -159,6 +307,17 @@ pub record AcceptedSet (S : Set) : Type 0 where
 -- bytes pass the check exactly when they are the encoding of an accepted set
 abbrev pub CheckedExactly : Type 0
 CheckedExactly = (s : List ℕ) → Bytes s → (check s ≡ Accepted) ↔ ((S : Set) × AcceptedSet S × (encode S ≡ s))
+
+-- ---- check
+
+-- these bytes are the file of an accepted set S
+pub record AcceptedFile (S : Set) (s : List ℕ) : Type 0 where
+  pub accepted : AcceptedSet S
+  pub bytes : encode S ≡ s
+
+-- check accepts exactly when the bytes are an accepted set's; it leaves nothing
+abbrev pub CheckMeets : Set → List ℕ → NothingLent → Type 0
+CheckMeets S s d = AcceptedFile S s
 
 -- ---- "Every next hop lies on a path of least total weight, ties to the lower number."
 
@@ -195,8 +354,37 @@ NearestAlternates =
     (S : Set) → AcceptedSet S → (u v : ℕ) → u < S .net .n → v < S .net .n → neighbours S u v ≡ true → (home S u ≡ home S v → ⊥)
     → AlternateIs S u v (alternate S u v)
 
+-- ---- tables
+
+-- tables accepts exactly when the bytes are an accepted set's and its tables have room
+pub record TablesMeet (S : Set) (s lent : List ℕ) : Type 0 where
+  pub file : AcceptedFile S s
+  pub room : tablesLength (S .net) ≤ length lent
+
+-- and then it answers their length, and every byte that it leaves is
+pub record TablesGive (S : Set) (s before : List ℕ) (r : LengthAnswer) (after : List ℕ) : Type 0 where
+  pub answer : r ≡ long.Length (tablesLength (S .net))
+  -- the next hop on a path of least total weight, ties to the lower number; "For t = u the entry is u."
+  pub next : (i u t : ℕ) → i ≤ S .net .k → u < S .net .n → t < S .net .n → (u ≡ t → ⊥) → NextHopIs S i u t (at after (entryPlace (S .net) i u t))
+  pub own : (i u : ℕ) → i ≤ S .net .k → u < S .net .n → at after (entryPlace (S .net) i u u) ≡ u
+  -- after those of topology k: the nearest alternate for a neighbour with another home, ties to the lower number; "All other alternate entries are 255."
+  pub alternate : (u v : ℕ) → u < S .net .n → v < S .net .n → neighbours S u v ≡ true → (home S u ≡ home S v → ⊥)
+      → AlternateIs S u v (at after (entryPlace (S .net) (S .net .k + 1) u v))
+  pub none : (u v : ℕ) → u < S .net .n → v < S .net .n → (neighbours S u v ≡ false) ⊎ (home S u ≡ home S v)
+      → at after (entryPlace (S .net) (S .net .k + 1) u v) ≡ 255
+  -- past the tables, as it came
+  pub rest : drop (tablesLength (S .net)) after ≡ drop (tablesLength (S .net)) before
+
 -- demand 2
 pub record Demand2 : Type 0 where
+  pub files-laid-out : FilesLaidOut
+  pub read-accepts : AcceptsExactly readEntry IsRead Bytes ReadMeets
+  pub read-gives : ThenGives readEntry ReadMeets ReadGives
+  pub write-accepts : AcceptsExactly writeEntry IsLength (λ i. Unit {0}) WriteMeets
+  pub write-gives : ThenGives writeEntry WriteMeets WriteGives
+  pub check-accepts : AcceptsExactly checkEntry IsAccepted Bytes CheckMeets
+  pub tables-accepts : AcceptsExactly tablesEntry IsLength Bytes TablesMeet
+  pub tables-gives : ThenGives tablesEntry TablesMeet TablesGive
   pub accepted-exactly : AcceptedExactly
   pub one-set : OneSet
   pub longest-file : LongestFile
@@ -279,19 +467,104 @@ KindsAre =
     (S : Set) → AcceptedSet S → (on : ℕ → ℕ → Bool) (p q : Packet) (kind : Kind) → p .place < S .net .n → p .destination < S .net .n → p .topology ≤ S .net .k
     → step S (tablesOf S) on p ≡ Moved q kind → (q .topology ≡ p .topology → ⊥) → KindIs S p (nextHop S (p .topology) (p .place) (p .destination)) q kind
 
--- the answer and the trail of an accepted call of the entry `run`, for a destination that is not the failed node: those of a run that is delivered
--- in at most 2n - 3 hops, with at most one change of topology, and crosses nothing failed
-pub record AnswersDelivered (i : RunInput) (r : RunAnswer) (after : RunLent) : Type 0 where
+-- ---- step
+
+-- what is down is in its range
+abbrev pub InRange : Network → Failure → Type 0
+InRange h Nothing = Unit {0}
+InRange h (Link l) = l < h .m
+InRange h (Node v) = v < h .n
+
+-- node u is not the failed node
+abbrev pub Standing : ℕ → Failure → Type 0
+Standing u Nothing = Unit {0}
+Standing u (Link l) = Unit {0}
+Standing u (Node v) = v ≡ u → ⊥
+
+-- every table entry that the step looks up is a neighbour: the next hop v, unless the packet is at its destination; where the packet is in topology 0 and
+-- v or the link to it is down, the next hop w in v's home topology; and where w is v again, the alternate for v
+pub record LooksUpNeighbours (S : Set) (tables : Tables) (on : ℕ → ℕ → Bool) (p : Packet) (v w : ℕ) : Type 0 where
+  pub next : (p .place ≡ p .destination → ⊥) → neighbours S (p .place) v ≡ true
+  pub changed : (p .place ≡ p .destination → ⊥) → on (p .place) v ≡ false → p .topology ≡ 0 → neighbours S (p .place) w ≡ true
+  pub around : (p .place ≡ p .destination → ⊥) → on (p .place) v ≡ false → p .topology ≡ 0 → w ≡ v
+      → neighbours S (p .place) (tables .alternate (p .place) v) ≡ true
+
+-- the same of the entries that the tables hold: v and w are those
+abbrev pub LooksUp : Set → Tables → (ℕ → ℕ → Bool) → Packet → Type 0
+LooksUp S tables on p =
+    LooksUpNeighbours S tables on p (tables .next (p .topology) (p .place) (p .destination))
+    (tables .next (home S (tables .next (p .topology) (p .place) (p .destination))) (p .place) (p .destination))
+
+-- step accepts exactly when the bytes are a set's, place and destination are nodes, the topology is one of the set's, the failure is in its range and not
+-- the place, the lent tables are long enough, and every entry that it looks up in them is a neighbour
+pub record StepMeets (S : Set) (i : StepInput) (d : NothingLent) : Type 0 where
+  pub file : FileOf S (i .file)
+  pub topologies : 1 ≤ S .net .k
+  pub place : i .packet .place < S .net .n
+  pub destination : i .packet .destination < S .net .n
+  pub topology : i .packet .topology ≤ S .net .k
+  pub failure : InRange (S .net) (i .failure)
+  pub standing : Standing (i .packet .place) (i .failure)
+  pub tables : tablesLength (S .net) ≤ length (i .tables)
+  pub looks-up : LooksUp S (lentTables (S .net) (i .tables)) (up S (faultOf (i .failure))) (i .packet)
+
+-- and then it answers what the forwarding rule makes of the packet, by the lent tables as they are
+pub record StepGives (S : Set) (i : StepInput) (before : NothingLent) (r : StepAnswer) (after : NothingLent) : Type 0 where
+  pub answer : r ≡ stepped.Taken (step S (lentTables (S .net) (i .tables)) (up S (faultOf (i .failure))) (i .packet))
+
+-- ---- run
+
+-- run accepts exactly when the bytes are an accepted set's, source and destination are nodes, the failure is in its range and not the source, and tables
+-- and trail have room
+pub record RunMeets (S : Set) (i : RunInput) (d : RunLent) : Type 0 where
+  pub file : AcceptedFile S (i .file)
+  pub source : i .source < S .net .n
+  pub destination : i .destination < S .net .n
+  pub failure : InRange (S .net) (i .failure)
+  pub standing : Standing (i .source) (i .failure)
+  pub tables : tablesLength (S .net) ≤ length (d .tables)
+  pub trail : trailRoom (S .net) ≤ length (d .trail)
+
+-- and then it answers how the run of the forwarding rule ended, its hops, its topology and kind, leaves its nodes in the trail, and leaves in the
+-- tables' room what the entry `tables` leaves there; steps by those bytes are the run
+pub record RunGives (S : Set) (i : RunInput) (before : RunLent) (r : RunAnswer) (after : RunLent) : Type 0 where
   pub made : Run
-  pub delivered : DeliveredBy (setOf (i .file)) (faultOf (i .failure)) (i .source) (i .destination) made
+  pub rule : made ≡ runUnder S (faultOf (i .failure)) (i .source) (i .destination)
+  pub answer : r ≡ ran.Ended (record { outcome = made .outcome; hops = hops made; topology = made .topology; kind = made .kind })
+  pub trail : Front (trail (i .source) made) (before .trail) (after .trail)
+  pub tables : (answer : LengthAnswer) (left : List ℕ) → Promise tablesEntry (i .file) (before .tables) answer left → after .tables ≡ left
+  pub steps : made ≡ run S (lentTables (S .net) (after .tables)) (up S (faultOf (i .failure))) (mostHops (S .net)) (packet (i .source) (i .destination) 0)
+
+-- demand 3 of what the entry `run` returns: for a destination that is not the failed node, its answer and its trail are those of the run of the rule,
+-- which is delivered in at most 2n - 3 hops, with at most one change of topology, and crosses nothing failed
+pub record AnswersDelivered (S : Set) (i : RunInput) (r : RunAnswer) (after : RunLent) : Type 0 where
+  pub made : Run
+  pub rule : made ≡ runUnder S (faultOf (i .failure)) (i .source) (i .destination)
+  pub delivered : DeliveredBy S (faultOf (i .failure)) (i .source) (i .destination) made
   pub answer : r ≡ ran.Ended (record { outcome = ended.Delivered; hops = hops made; topology = made .topology; kind = made .kind })
   pub written : take (suc (hops made)) (after .trail) ≡ trail (i .source) made
 
--- demand 3 of what the entry `run` returns
+-- so is every call that the entry accepts
 abbrev pub DeliveredByRun : Type 0
 DeliveredByRun =
-    (i : RunInput) (before after : RunLent) (r : RunAnswer) → Promise runEntry i before r after → runEntry .verdict i before ≡ Accepted
-    → failed (faultOf (i .failure)) (i .destination) ≡ false → AnswersDelivered i r after
+    (S : Set) (i : RunInput) (before after : RunLent) (r : RunAnswer) → Promise runEntry i before r after → RunMeets S i before
+    → failed (faultOf (i .failure)) (i .destination) ≡ false → AnswersDelivered S i r after
+
+-- ---- report
+
+-- report accepts exactly when the bytes are an accepted set's and its text has room
+pub record ReportMeets (S : Set) (s lent : List ℕ) : Type 0 where
+  pub file : AcceptedFile S s
+  pub room : length (reportText S) ≤ length lent
+
+-- and then it answers the text's length and leaves the text at the front of the room
+pub record ReportGives (S : Set) (s before : List ℕ) (r : LengthAnswer) (after : List ℕ) : Type 0 where
+  pub answer : r ≡ long.Length (length (reportText S))
+  pub text : Front (reportText S) before after
+
+-- room for the longest report is room for every accepted set's
+abbrev pub ReportFits : Type 0
+ReportFits = (S : Set) → AcceptedSet S → length (reportText S) ≤ longest .report
 
 -- each line of the report is what the run does: the detecting node's step is the run's first hop and its one change of topology
 pub record LineIsRun (S : Set) (u t : ℕ) (r : Run) : Type 0 where
@@ -329,13 +602,6 @@ BuiltExactly = (G : Set) → MeetsRules G → (fits G (G .net .n) ≡ true) ↔ 
 abbrev pub BuiltAccepted : Type 0
 BuiltAccepted = (G : Set) (cap : ℕ) → MeetsRules G → cap ≤ 32 → fits G cap ≡ true → AcceptedSet (built G cap)
 
--- what the entry `build` answers, given n as its cap and room: a length exactly when any one node can be removed
-abbrev pub BuildAnswers : Type 0
-BuildAnswers =
-    (i : BuildInput) (room after : List ℕ) (r : LengthAnswer) → Bytes (i .file) → judge (i .file) ≡ Accepted → headerOf (i .file) .k ≡ 0
-    → i .cap ≡ headerOf (i .file) .n → 9192 ≤ length room → Promise buildEntry i room r after
-    → ((bytes : ℕ) × (r ≡ long.Length bytes)) ↔ Removable (setOf (i .file))
-
 -- how many topologies first fit takes where it is allowed n
 unfoldable pub topologiesNeeded : Set → ℕ
 topologiesNeeded G = highest (firstFit G (G .net .n)) (G .net .n)
@@ -345,6 +611,53 @@ abbrev pub RefusedExactly : Type 0
 RefusedExactly =
     (G : Set) (cap : ℕ) → MeetsRules G
     → ((buildNumber G cap ≡ 9) ↔ (Removable G → ⊥)) × ((buildNumber G cap ≡ 10) ↔ (Removable G × (cap < topologiesNeeded G)))
+
+-- the counts of a graph's set with k topologies
+unfoldable pub withTopologies : Network → ℕ → Network
+withTopologies h k = record { n = h .n; m = h .m; k = k; wmax = h .wmax }
+
+-- build accepts exactly when the bytes are a graph's, the cap is 1 to 32, any one node can be removed, first fit needs no more than the cap, and the
+-- file of the set has room
+pub record BuildMeets (G : Set) (i : BuildInput) (lent : List ℕ) : Type 0 where
+  pub file : FileOf G (i .file)
+  pub graph : G .net .k ≡ 0
+  pub cap : (1 ≤ i .cap) × (i .cap ≤ 32)
+  pub removable : Removable G
+  pub few : topologiesNeeded G ≤ i .cap
+  pub room : fileLength (withTopologies (G .net) (topologiesNeeded G)) ≤ length lent
+
+-- the homes of the nodes below v; the others have none yet
+unfoldable pub homesBelow : Set → ℕ → List ℕ
+homesBelow S v = upTo (λ u. if ltb u v then home S u else 0) (S .net .n)
+
+-- the rules of topology i hold for the graph with the homes of the nodes below v, and with v added to i
+abbrev pub Admits : Set → Set → ℕ → ℕ → Type 0
+Admits G S v i = Sound (withHomes G (set (homesBelow S v) v i)) i
+
+-- S is what 01's builder makes of graph G: its nodes, links and weights; "Nodes go in number order; each goes to the first topology, counted from 1, that
+-- admits it"; "k = the highest topology used and rows equal to topology 0's weights on normal links"
+pub record BuiltBy (G S : Set) : Type 0 where
+  pub net : S .net ≡ withTopologies (G .net) (S .net .k)
+  pub links : (S .a ≡ G .a) × (S .b ≡ G .b) × (S .weights ≡ G .weights)
+  pub admitted : (v : ℕ) → v < G .net .n → Admits G S v (home S v)
+  pub first : (v i : ℕ) → v < G .net .n → 1 ≤ i → i < home S v → Admits G S v i → ⊥
+  pub highest : (v : ℕ) × (v < G .net .n) × (home S v ≡ S .net .k)
+  pub rows : (i l : ℕ) → 1 ≤ i → i ≤ S .net .k → l < S .net .m → class S i l ≡ Normal → at (rowInForce S i) l ≡ at (G .weights) l
+
+-- and then it answers the length of the file that it leaves at the front of the room: that of an accepted set, the one that first fit makes of this graph
+pub record BuildGives (G : Set) (i : BuildInput) (before : List ℕ) (r : LengthAnswer) (after : List ℕ) : Type 0 where
+  pub set : Set
+  pub accepted : AcceptedSet set
+  pub built : BuiltBy G set
+  pub topologies : set .net .k ≡ topologiesNeeded G
+  pub answer : r ≡ long.Length (fileLength (set .net))
+  pub file : Front (encode set) before after
+
+-- demand 3 of what the entry `build` returns, given n as its cap and room for the set: a length exactly when any one node can be removed
+abbrev pub BuildAnswers : Type 0
+BuildAnswers =
+    (G : Set) (i : BuildInput) (room after : List ℕ) (r : LengthAnswer) → FileOf G (i .file) → G .net .k ≡ 0 → i .cap ≡ G .net .n
+    → fileLength (withTopologies (G .net) (topologiesNeeded G)) ≤ length room → Promise buildEntry i room r after → IsLength r ↔ Removable G
 
 -- an accepted set's graph is connected, stays so without any one node, and has at least as many links as nodes
 pub record AcceptedGraph (S : Set) : Type 0 where
@@ -373,10 +686,19 @@ pub record Demand3 : Type 0 where
   pub lost-with-node : LostWithNode
   pub moves-on-usable : MovesOnUsable
   pub kinds-are : KindsAre
+  pub step-accepts : AcceptsExactly stepEntry IsTaken (λ i. Bytes (i .file)) StepMeets
+  pub step-gives : ThenGives stepEntry StepMeets StepGives
+  pub run-accepts : AcceptsExactly runEntry IsEnded (λ i. Bytes (i .file)) RunMeets
+  pub run-gives : ThenGives runEntry RunMeets RunGives
   pub delivered-by-run : DeliveredByRun
+  pub report-accepts : AcceptsExactly reportEntry IsLength Bytes ReportMeets
+  pub report-gives : ThenGives reportEntry ReportMeets ReportGives
+  pub report-fits : ReportFits
   pub lines-are-runs : LinesAreRuns
   pub built-exactly : BuiltExactly
   pub built-accepted : BuiltAccepted
+  pub build-accepts : AcceptsExactly buildEntry IsLength (λ i. Bytes (i .file)) BuildMeets
+  pub build-gives : ThenGives buildEntry BuildMeets BuildGives
   pub build-answers : BuildAnswers
   pub refused-exactly : RefusedExactly
   pub accepted-graphs : AcceptedGraphs
