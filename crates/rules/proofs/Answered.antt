@@ -1,32 +1,36 @@
--- Demand 3 of what the entry `run` returns: an accepted call for a destination that is not the failed node answers delivered, with the hops and
--- the trail of the run.
-use mathlib.Core.Path.{_≡_, refl, sym, ap, _∙_}
-use mathlib.Core.Bool.{Bool, true, false}
-use Prim.Native.Nat.{ℕ, suc, _<_}
+-- Demand 3 of what the entry `run` returns: what it accepts, what it then answers and leaves, and that it is delivered where the destination is up.
+use mathlib.Core.Path.{_≡_, refl, sym, ap, subst, _∙_}
+use mathlib.Core.List.{List}
+use Prim.Native.Nat.{ℕ, suc, _≤_, _<_}
 use native.Mathlib.Omega.{arith}
-use lib.Dec.{eqb}
-use lib.ListN.{take}
-use borrow.Author.Tests.{ltb-true, eqb-true}
+use lib.ListN.{length, take}
+use borrow.Author.Tests.{eqb-true}
+use Rattle.rules.specs.declared.Network.{Network}
 use Rattle.rules.specs.declared.Failure.{Failure}
 use Rattle.rules.specs.declared.Failure.the-variants.{Nothing, Link, Node}
 use Rattle.rules.specs.declared.Verdict.{Verdict}
 use Rattle.rules.specs.declared.Verdict.the-variants.{Accepted}
 use Rattle.rules.specs.declared.Outcome.{Outcome}
-use Rattle.rules.specs.declared.Outcome.the-variants as ended
+use Rattle.rules.specs.declared.LengthAnswer.{LengthAnswer}
 use Rattle.rules.specs.declared.RunAnswer.{RunAnswer}
 use Rattle.rules.specs.declared.RunAnswer.the-variants as ran
-use Rattle.rules.specs.Basics.{if_then_else_}
+use Rattle.rules.specs.Basics.{laid}
+use Rattle.rules.specs.Limits.{tablesLength, mostHops, trailRoom}
 use Rattle.rules.specs.File.{Set, headerOf, setOf}
 use Rattle.rules.specs.Isolation.{home}
-use Rattle.rules.specs.Forwarding.{faultOf, failed, up, Run, hops, trail}
-use Rattle.rules.specs.Judgement.{refuse, check, needPacket, needSource, sourceNumber}
-use Rattle.rules.specs.Answers.{tell, runTells, journeyValues}
-use Rattle.rules.specs.Entries.{onAccept, RunInput, RunLent, runOf, runValues, runEntry}
-use Rattle.rules.specs.Demands.{AcceptedSet, Tolerated, DeliveredByRun}
-use Rattle.rules.proofs.Choices.{need-ok, refuse-zero, then-first, then-second}
+use Rattle.rules.specs.Distance.{tableBytes}
+use Rattle.rules.specs.Forwarding.{faultOf, failed, up, lentTables, packet, Run, hops, trail, run}
+use Rattle.rules.specs.Judgement.{check}
+use Rattle.rules.specs.Report.{runUnder}
+use Rattle.rules.specs.Entries.{Promise, tablesEntry, RunInput, RunLent, runOf, runValues, runEntry}
+use Rattle.rules.specs.Demands.{Bytes, AcceptedSet, AcceptsExactly, ThenGives, IsEnded, Front, TablesMeet, RunMeets, RunGives, Tolerated, DeliveredByRun}
+use Rattle.rules.proofs.Choices.{then-ok, then-first, then-second}
 use Rattle.rules.proofs.Rows.{laid-front}
-use Rattle.rules.proofs.Determined.{run-one}
-use Rattle.rules.proofs.Checked.{checked-set}
+use Rattle.rules.proofs.Answering.{accepts, told, left, front-laid, run-values, run-is, journeyOf}
+use Rattle.rules.proofs.Needs.{room-ok, room-long, packet-needed, packet-given, source-needed, source-given, standing-up}
+use Rattle.rules.proofs.Tabled.{accepted-file, file-checked, its-set, tables-meets}
+use Rattle.rules.proofs.Runs.{starts}
+use Rattle.rules.proofs.Lent.{lent-agree, run-same}
 use Rattle.rules.proofs.Delivery.{delivery}
 
 -- one failed node is nodes of one home
@@ -36,61 +40,110 @@ tolerated S Nothing = tt
 tolerated S (Link l) = tt
 tolerated S (Node x) = (home S x, λ v l e. ap (home S) (sym (eqb-true x v e)))
 
--- a source that 12 does not refuse is up
-not-twelve : (t : Bool) → _≡_ {A = ℕ} (if t then 12 else 0) 0 → t ≡ false
-unfolding if_then_else_
-not-twelve true e = absurd (omega arith)
-not-twelve false e = refl
+-- ---- what it accepts
 
-up-source : (u : ℕ) (f : Failure) → sourceNumber u f ≡ 0 → failed (faultOf f) u ≡ false
-unfolding sourceNumber failed faultOf
-up-source u Nothing e = refl
-up-source u (Link l) e = refl
-up-source u (Node v) e = not-twelve (eqb v u) e
+run-asked : (i : RunInput) (d : RunLent) → Bytes (i .file) → runEntry .verdict i d ≡ Accepted → (S : Set) × RunMeets S i d
+unfolding runEntry setOf
+run-asked i d small e =
+    let packet = then-second _ _ e in
+    let source = then-second _ _ packet in
+    let room = then-second _ _ source in
+    let known = packet-needed (headerOf (i .file)) _ (i .failure) (then-first _ _ packet) in
+    (
+      setOf (i .file),
+      record {
+        file = accepted-file (i .file) small (then-first _ _ e);
+        source = known .place;
+        destination = known .destination;
+        failure = known .failure;
+        standing = source-needed (i .source) (i .failure) (then-first _ _ source);
+        tables = room-long (tablesLength (headerOf (i .file))) (d .tables) (then-first _ _ room);
+        trail = room-long (trailRoom (headerOf (i .file))) (d .trail) (then-second _ _ room);
+      },
+    )
 
--- what an accepted call asked: an accepted set, a source and a destination that are nodes, and a source that is up
-record Asked (i : RunInput) : Type 0 where
-  set : AcceptedSet (setOf (i .file))
-  source : i .source < headerOf (i .file) .n
-  destination : i .destination < headerOf (i .file) .n
-  standing : failed (faultOf (i .failure)) (i .source) ≡ false
+own-set : (S : Set) (i : RunInput) (d : RunLent) → RunMeets S i d → setOf (i .file) ≡ S
+own-set S i d M = its-set S (i .file) (M .file)
 
-asked : (i : RunInput) (before : RunLent) → runEntry .verdict i before ≡ Accepted → Asked i
-unfolding runEntry needPacket needSource
-asked i before e =
-    let rest = then-second (check (i .file)) _ e in
-    let p1 = need-ok _ _ _ (refuse-zero _ 0 (then-first _ _ rest)) in
-    let p2 = need-ok _ _ _ (p1 .1) in
-    let from = refuse-zero (sourceNumber (i .source) (i .failure)) 0 (then-first _ _ (then-second _ _ rest)) in
+held-meets : (i : RunInput) (d : RunLent) → RunMeets (setOf (i .file)) i d → runEntry .verdict i d ≡ Accepted
+unfolding runEntry setOf
+held-meets i d M =
+    then-ok _ _ (file-checked (setOf (i .file)) (i .file) (M .file))
+    ∙ then-ok _ _ (packet-given (headerOf (i .file)) (packet (i .source) (i .destination) 0) (i .failure)
+    (record { place = M .source; destination = M .destination; topology = omega arith; failure = M .failure }))
+    ∙ then-ok _ _ (source-given (i .source) (i .failure) (M .standing))
+    ∙ then-ok _ _ (room-ok (tablesLength (headerOf (i .file))) (d .tables) (M .tables))
+    ∙ room-ok (trailRoom (headerOf (i .file))) (d .trail) (M .trail)
+
+run-meets : (S : Set) (i : RunInput) (d : RunLent) → RunMeets S i d → runEntry .verdict i d ≡ Accepted
+run-meets S i d M = held-meets i d (subst (λ (T : Set). RunMeets T i d) (sym (own-set S i d M)) M)
+
+pub run-accepts : AcceptsExactly runEntry IsEnded (λ i. Bytes (i .file)) RunMeets
+unfolding runEntry
+run-accepts = accepts runEntry IsEnded (λ i. Bytes (i .file)) RunMeets run-values (λ i d r e. (journeyOf (runOf i), run-is r (runOf i) e)) run-asked run-meets
+
+-- ---- what it then answers and leaves
+
+module _ (S : Set) (i : RunInput) (before after : RunLent) (r : RunAnswer) (P : Promise runEntry i before r after) (M : RunMeets S i before) where
+  abbrev made : Run
+  made = runUnder S (faultOf (i .failure)) (i .source) (i .destination)
+
+  rule : runOf i ≡ made
+  unfolding runOf
+  rule = ap (λ (T : Set). runUnder T (faultOf (i .failure)) (i .source) (i .destination)) (own-set S i before M)
+
+  its-tables : after .tables ≡ laid (tableBytes S) (before .tables)
+  unfolding runEntry
+  its-tables =
+      ap (λ (d : RunLent). d .tables) (left runEntry i before after r P (run-meets S i before M))
+      ∙ ap (λ (T : Set). laid (tableBytes T) (before .tables)) (own-set S i before M)
+
+  its-trail : after .trail ≡ laid (trail (i .source) made) (before .trail)
+  unfolding runEntry
+  its-trail =
+      ap (λ (d : RunLent). d .trail) (left runEntry i before after r P (run-meets S i before M))
+      ∙ ap (λ (x : Run). laid (trail (i .source) x) (before .trail)) rule
+
+  its-answer : r ≡ ran.Ended (journeyOf made)
+  unfolding runEntry
+  its-answer = run-is r (runOf i) (told runEntry i before after r P (run-meets S i before M)) ∙ ap (λ (x : Run). ran.Ended (journeyOf x)) rule
+
+  -- what the entry `tables` leaves in the same room
+  same-tables : (answer : LengthAnswer) (lent : List ℕ) → Promise tablesEntry (i .file) (before .tables) answer lent → after .tables ≡ lent
+  unfolding tablesEntry
+  same-tables answer lent Q =
+      its-tables
+      ∙ ap (λ (T : Set). laid (tableBytes T) (before .tables)) (sym (own-set S i before M))
+      ∙ sym (left tablesEntry (i .file) (before .tables) lent answer Q (tables-meets S (i .file) (before .tables) (record { file = M .file; room = M .tables })))
+
+  by-steps : made ≡ run S (lentTables (S .net) (after .tables)) (up S (faultOf (i .failure))) (mostHops (S .net)) (packet (i .source) (i .destination) 0)
+  unfolding runUnder
+  by-steps =
+      let A = M .file .accepted in
+      sym (ap (λ (t : List ℕ). run S (lentTables (S .net) t) (up S (faultOf (i .failure))) (mostHops (S .net)) (packet (i .source) (i .destination) 0)) its-tables
+      ∙ run-same S A (up S (faultOf (i .failure))) (lentTables (S .net) (laid (tableBytes S) (before .tables))) (lent-agree S (before .tables)) (mostHops (S .net)) (packet (i .source) (i .destination) 0)
+      (starts S A (up S (faultOf (i .failure))) (i .source) (i .destination) (M .source) (M .destination)))
+
+pub run-gives : ThenGives runEntry RunMeets RunGives
+run-gives S i before after r P M =
     record {
-      set = checked-set (i .file) (then-first (check (i .file)) _ e);
-      source = ltb-true _ _ (p1 .0);
-      destination = ltb-true _ _ (p2 .0);
-      standing = up-source (i .source) (i .failure) from;
+      made = made S i before after r P M;
+      rule = refl;
+      answer = its-answer S i before after r P M;
+      trail = subst (λ (t : List ℕ). Front (trail (i .source) (made S i before after r P M)) (before .trail) t) (sym (its-trail S i before after r P M)) (front-laid _ (before .trail));
+      tables = same-tables S i before after r P M;
+      steps = by-steps S i before after r P M;
     }
 
--- the answer tells the run's values, and is the only one that does
-ended-with : (r : RunAnswer) (made : Run) → runTells r ≡ tell Accepted (runValues made)
-    → r ≡ ran.Ended (record { outcome = made .outcome; hops = hops made; topology = made .topology; kind = made .kind })
-unfolding runTells runValues journeyValues tell
-ended-with r made e = run-one r (ran.Ended (record { outcome = made .outcome; hops = hops made; topology = made .topology; kind = made .kind })) e
-
--- what an accepted call leaves in lent room
-left : {A : Type 0} (v : Verdict) (new old after : A) → v ≡ Accepted → after ≡ onAccept v new old → after ≡ new
-unfolding onAccept
-left v new old after e d = d ∙ rw e
-
 pub delivered-by-run : DeliveredByRun
-unfolding runEntry runOf tell hops trail setOf
-delivered-by-run i before after r P e alive =
-    let a = asked i before e in
-    let made = runOf i in
-    let d = delivery (setOf (i .file)) (a .set) (faultOf (i .failure)) (tolerated (setOf (i .file)) (i .failure)) (i .source) (i .destination) (a .source) (a .destination) (a .standing) alive in
+unfolding hops trail
+delivered-by-run S i before after r P M alive =
+    let d = delivery S (M .file .accepted) (faultOf (i .failure)) (tolerated S (i .failure)) (i .source) (i .destination) (M .source) (M .destination) (standing-up (i .source) (i .failure) (M .standing)) alive in
     record {
-      made = made;
+      made = runUnder S (faultOf (i .failure)) (i .source) (i .destination);
+      rule = refl;
       delivered = d;
-      answer = ended-with r made (P .answer ∙ rw e) ∙ ap (λ (o : Outcome). ran.Ended (record { outcome = o; hops = hops made; topology = made .topology; kind = made .kind })) (d .outcome);
-      written =
-          ap (λ (d : RunLent). take (suc (hops made)) (d .trail)) (left (runEntry .verdict i before) (runEntry .leaves i before) before after e (P .lent))
-          ∙ laid-front (trail (i .source) made) (before .trail);
+      answer = its-answer S i before after r P M
+          ∙ ap (λ (o : Outcome). ran.Ended (record { outcome = o; hops = hops (made S i before after r P M); topology = made S i before after r P M .topology; kind = made S i before after r P M .kind })) (d .outcome);
+      written = ap (λ (t : List ℕ). take (suc (hops (made S i before after r P M))) t) (its-trail S i before after r P M) ∙ laid-front (trail (i .source) (made S i before after r P M)) (before .trail);
     }

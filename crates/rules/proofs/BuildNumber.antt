@@ -43,7 +43,7 @@ homes-same G c d (suc v) h w =
     ap (λ (list : List ℕ). set list v (firstTopology G d list v)) e ∙ ap (λ (x : ℕ). set (homesAfter G c v) v x) (given-same G c d (homesAfter G c v) v (t .0) (t .1))
 
 -- homes within two caps are first fit's under both
-fit-same : (G : Set) (c d : ℕ) → fits G c ≡ true → ((v : ℕ) → v < G .net .n → getD (firstFit G c) v 0 ≤ d) → firstFit G d ≡ firstFit G c
+pub fit-same : (G : Set) (c d : ℕ) → fits G c ≡ true → ((v : ℕ) → v < G .net .n → getD (firstFit G c) v 0 ≤ d) → firstFit G d ≡ firstFit G c
 unfolding firstFit
 fit-same G c d ok h =
     homes-same G c d (G .net .n) (omega arith)

@@ -39,7 +39,7 @@ highest-least homes (suc n) v l = pick (λ h. highest-least homes n v h) (eqb v 
 
 -- ---- rows by class
 
-on-normal : (c : Class) (w : ℕ) → c ≡ Normal → onNormal c w ≡ w
+pub on-normal : (c : Class) (w : ℕ) → c ≡ Normal → onNormal c w ≡ w
 unfolding onNormal
 on-normal Class.Normal w e = refl
 on-normal Class.Isolated w e = cc
@@ -80,7 +80,7 @@ module _ (G : Set) (homes : List ℕ) where
       ∙ getD-upTo (λ x. onNormal (class (withHomes G homes) (suc j) x) (getD (G .weights) x 0)) (G .net .m) l 0 g
       ∙ ap (λ (c : Class). onNormal c (getD (G .weights) l 0)) (sym (same-class (suc j) l))
 
-  filled-row : (i l : ℕ) → 1 ≤ i → i ≤ k → l < G .net .m → at (rowInForce (filled G homes) i) l ≡ onNormal (class (filled G homes) i l) (at (G .weights) l)
+  pub filled-row : (i l : ℕ) → 1 ≤ i → i ≤ k → l < G .net .m → at (rowInForce (filled G homes) i) l ≡ onNormal (class (filled G homes) i l) (at (G .weights) l)
   filled-row zero l one h g = absurd (omega arith)
   filled-row (suc j) l one h g = row-at j l (omega arith) g
 

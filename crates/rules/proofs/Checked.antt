@@ -1,29 +1,16 @@
 -- Demand 2, sets: the check accepts bytes exactly when they are the encoding of a set that meets the rules, its topologies' too.
-use mathlib.Core.Path.{_≡_, refl, sym, ap, subst, _∙_}
+use mathlib.Core.Path.{_≡_, sym, ap, subst, _∙_}
 use mathlib.Core.List.{List}
-use Prim.Native.Nat.{ℕ, _≤_}
-use lib.Dec.{leb}
-use borrow.Author.Tests.{leb-true, le-leb}
-use Rattle.rules.specs.declared.Network.{Network}
+use Prim.Native.Nat.{ℕ}
 use Rattle.rules.specs.declared.Verdict.the-variants.{Accepted}
-use Rattle.rules.specs.Basics.{need}
 use Rattle.rules.specs.File.{Set, encode, headerOf, setOf}
 use Rattle.rules.specs.Judgement.{andThen, judge, needSet, topologies, check}
 use Rattle.rules.specs.Demands.{AcceptedSet, CheckedExactly}
-use Rattle.rules.proofs.Choices.{need-ok, need-yes, refuse-ok, refuse-zero, then-ok, then-first, then-second}
+use Rattle.rules.proofs.Choices.{then-ok, then-first, then-second}
+use Rattle.rules.proofs.Needs.{set-needed, set-given}
 use Rattle.rules.proofs.Held.{net-held}
 use Rattle.rules.proofs.Accepted.{judged, encode-accepted, set-back}
 use Rattle.rules.proofs.Sound.{topologies-sound, sound-topologies}
-
--- ---- 13
-
-set-needed : (h : Network) → needSet h ≡ Accepted → 1 ≤ h .k
-unfolding needSet
-set-needed h e = leb-true 1 (h .k) (need-ok (leb 1 (h .k)) 12 0 (refuse-zero (need (leb 1 (h .k)) 13 0) 0 e) .0)
-
-set-given : (h : Network) → 1 ≤ h .k → needSet h ≡ Accepted
-unfolding needSet
-set-given h l = sym (refuse-ok (need (leb 1 (h .k)) 13 0) 0 (sym (need-yes (leb 1 (h .k)) 13 0 0 (le-leb 1 (h .k) l) refl)))
 
 -- ---- a checked file
 

@@ -1,4 +1,5 @@
--- Demand 1: each entry takes every input, a refusal alters nothing, and two results that a promise allows coincide.
+-- Demand 1 of any entry: it takes every input, a refusal alters nothing, lengths are kept, and two results that its promise allows coincide. The answers that
+-- each telling has.
 use mathlib.Core.Path.{_≡_, refl, sym, ap, ap₂, _∙_}
 use mathlib.Core.List.{List, [], _∷_}
 use Prim.Native.Nat.{ℕ}
@@ -24,32 +25,49 @@ use Rattle.rules.specs.declared.Outcome.{Outcome}
 use Rattle.rules.specs.declared.Outcome.the-variants as ended
 use Rattle.rules.specs.declared.RunAnswer.{RunAnswer}
 use Rattle.rules.specs.declared.RunAnswer.the-variants as ran
-use Rattle.rules.specs.File.{headerOf}
 use Rattle.rules.specs.Forwarding.{Run, hops}
 use Rattle.rules.specs.Report.{letter}
-use Rattle.rules.specs.Answers.{accepted, tell, verdictTells, headerValues, readTells, lengthTells, outcomeValue, packetValues, stepValues, stepTells, journeyValues, runTells}
-use Rattle.rules.specs.Entries.{Entry, onAccept, readEntry, writeEntry, checkEntry, buildEntry, tablesEntry, stepOf, stepEntry, runOf, runValues, runEntry, reportEntry}
-use Rattle.rules.specs.Demands.{TakesEveryInput, Demand1}
+use Rattle.rules.specs.Answers.{accepted, refused, tell, verdictTells, headerValues, readTells, lengthTells, outcomeValue, packetValues, stepValues, stepTells, journeyValues, runTells}
+use Rattle.rules.specs.Entries.{Entry, onAccept, runValues}
+use Rattle.rules.specs.Demands.{Numbered, TakesEveryInput}
 
 -- ---- an entry takes every input where each telling has an answer, and only one
 
-module _ {Input Lent Answer : Type 0} (E : Entry Input Lent Answer)
+-- a refusal is told of that refused verdict alone
+tells-refused : (v : Verdict) (given : List ℕ) (number place : ℕ) → refused number place ≡ tell v given → v ≡ Refused number place
+unfolding tell
+tells-refused Accepted given number place e = let z : _≡_ {A = ℕ} 0 1 = cc in absurd (omega arith)
+tells-refused (Refused x y) given number place e = cc
+
+module _ {Input Lent Answer : Type 0} (E : Entry Input Lent Answer) (lengths : Lent → List ℕ)
     (says : (v : Verdict) (i : Input) (before : Lent) → (r : Answer) × (E .tells r ≡ tell v (E .gives i before)))
-    (one : (r r′ : Answer) → E .tells r ≡ E .tells r′ → r ≡ r′) where
-  pub takes-every-input : TakesEveryInput E
+    (one : (r r′ : Answer) → E .tells r ≡ E .tells r′ → r ≡ r′)
+    (long : (i : Input) (before : Lent) → E .verdict i before ≡ Accepted → lengths (E .leaves i before) ≡ lengths before)
+    (numbered : (i : Input) (before : Lent) → Numbered (E .verdict i before)) where
+  kept-by : (i : Input) (before : Lent) (v : Verdict) → E .verdict i before ≡ v → lengths (onAccept v (E .leaves i before) before) ≡ lengths before
+  unfolding onAccept
+  kept-by i before Accepted e = long i before e
+  kept-by i before (Refused number place) e = refl
+
+  pub takes-every-input : TakesEveryInput E lengths
   unfolding tell onAccept
   takes-every-input =
       record {
         taken = λ i before.
             let s = says (E .verdict i before) i before in
             (s .0, onAccept (E .verdict i before) (E .leaves i before) before, record { answer = s .1; lent = refl });
-        unaltered = λ i before r after number place P e. (P .answer ∙ rw e, P .lent ∙ rw e);
+        refuses = λ i before r after number place P e. P .answer ∙ rw e;
+        numbered = λ i before r after number place P e.
+            numbered i before number place (tells-refused (E .verdict i before) (E .gives i before) number place (sym e ∙ P .answer));
+        unaltered = λ i before r after number place P e.
+            P .lent ∙ ap (λ (v : Verdict). onAccept v (E .leaves i before) before) (tells-refused (E .verdict i before) (E .gives i before) number place (sym e ∙ P .answer));
+        kept = λ i before r after P. ap lengths (P .lent) ∙ kept-by i before (E .verdict i before) refl;
         determined = λ i before r r′ after after′ P Q. (one r r′ (P .answer ∙ sym (Q .answer)), P .lent ∙ sym (Q .lent));
       }
 
 -- ---- the answers
 
-verdict-one : (r r′ : Verdict) → verdictTells r ≡ verdictTells r′ → r ≡ r′
+pub verdict-one : (r r′ : Verdict) → verdictTells r ≡ verdictTells r′ → r ≡ r′
 unfolding verdictTells
 verdict-one Accepted Accepted e = refl
 verdict-one Accepted (Refused number place) e = cc
@@ -68,7 +86,7 @@ header-one h h′ e =
 values-of : (l l′ : List ℕ) → accepted l ≡ accepted l′ → l ≡ l′
 values-of l l′ e = cc
 
-read-one : (r r′ : ReadAnswer) → readTells r ≡ readTells r′ → r ≡ r′
+pub read-one : (r r′ : ReadAnswer) → readTells r ≡ readTells r′ → r ≡ r′
 unfolding readTells
 read-one (read.Read h) (read.Read h′) e = ap read.Read (header-one h h′ (values-of (headerValues h) (headerValues h′) e))
 read-one (read.Read h) (read.Refused number place) e = cc
@@ -139,7 +157,7 @@ steps-one (Dropped p) (Delivered q) e = absurd (apart 2 _ 1 _ _ _ (λ z. omega a
 steps-one (Dropped p) (Moved q k) e = absurd (apart 2 _ 0 _ _ _ (λ z. omega arith) e)
 steps-one (Dropped p) (Dropped q) e = ap Dropped (packet-one p q (tail-of _ _ _ _ (packetValues p) (packetValues q) e .2))
 
-step-one : (r r′ : StepAnswer) → stepTells r ≡ stepTells r′ → r ≡ r′
+pub step-one : (r r′ : StepAnswer) → stepTells r ≡ stepTells r′ → r ≡ r′
 unfolding stepTells
 step-one (stepped.Taken s) (stepped.Taken s′) e = ap stepped.Taken (steps-one s s′ (values-of (stepValues s) (stepValues s′) e))
 step-one (stepped.Taken s) (stepped.Refused number place) e = cc
@@ -164,43 +182,27 @@ run-one (ran.Refused number place) (ran.Refused c p) e = cc
 
 -- ---- each telling has an answer
 
-length-says : (v : Verdict) (bytes : ℕ) → (r : LengthAnswer) × (lengthTells r ≡ tell v (bytes ∷ []))
+pub length-says : (v : Verdict) (bytes : ℕ) → (r : LengthAnswer) × (lengthTells r ≡ tell v (bytes ∷ []))
 unfolding lengthTells tell
 length-says Accepted bytes = (long.Length bytes, refl)
 length-says (Refused number place) bytes = (long.Refused number place, refl)
 
-read-says : (v : Verdict) (h : Network) → (r : ReadAnswer) × (readTells r ≡ tell v (headerValues h))
+pub read-says : (v : Verdict) (h : Network) → (r : ReadAnswer) × (readTells r ≡ tell v (headerValues h))
 unfolding readTells tell
 read-says Accepted h = (read.Read h, refl)
 read-says (Refused number place) h = (read.Refused number place, refl)
 
-verdict-says : (v : Verdict) → (r : Verdict) × (verdictTells r ≡ tell v [])
+pub verdict-says : (v : Verdict) → (r : Verdict) × (verdictTells r ≡ tell v [])
 unfolding verdictTells tell
 verdict-says Accepted = (Accepted, refl)
 verdict-says (Refused number place) = (Refused number place, refl)
 
-step-says : (v : Verdict) (s : Step) → (r : StepAnswer) × (stepTells r ≡ tell v (stepValues s))
+pub step-says : (v : Verdict) (s : Step) → (r : StepAnswer) × (stepTells r ≡ tell v (stepValues s))
 unfolding stepTells tell
 step-says Accepted s = (stepped.Taken s, refl)
 step-says (Refused number place) s = (stepped.Refused number place, refl)
 
-run-says : (v : Verdict) (r : Run) → (a : RunAnswer) × (runTells a ≡ tell v (runValues r))
+pub run-says : (v : Verdict) (r : Run) → (a : RunAnswer) × (runTells a ≡ tell v (runValues r))
 unfolding runTells tell runValues journeyValues
 run-says Accepted r = (ran.Ended (record { outcome = r .outcome; hops = hops r; topology = r .topology; kind = r .kind }), refl)
 run-says (Refused number place) r = (ran.Refused number place, refl)
-
--- ---- demand 1
-
-pub demand-1 : Demand1
-unfolding readEntry writeEntry checkEntry buildEntry tablesEntry stepEntry stepOf runEntry reportEntry
-demand-1 =
-    record {
-      read = takes-every-input readEntry (λ v s d. read-says v (headerOf s)) read-one;
-      write = takes-every-input writeEntry (λ v i d. length-says v _) length-one;
-      check = takes-every-input checkEntry (λ v s d. verdict-says v) verdict-one;
-      build = takes-every-input buildEntry (λ v i d. length-says v _) length-one;
-      tables = takes-every-input tablesEntry (λ v s d. length-says v _) length-one;
-      step = takes-every-input stepEntry (λ v i d. step-says v _) step-one;
-      run = takes-every-input runEntry (λ v i d. run-says v (runOf i)) run-one;
-      report = takes-every-input reportEntry (λ v s d. length-says v _) length-one;
-    }

@@ -48,7 +48,7 @@ module _ (G : Set) (cap : ℕ) where
   homes-long zero = length-replicate (G .net .n) 0
   homes-long (suc v) = length-set (homesAfter G cap v) v (given v) ∙ homes-long v
 
-  unplaced : (v x : ℕ) → v ≤ x → getD (homesAfter G cap v) x 0 ≡ 0
+  pub unplaced : (v x : ℕ) → v ≤ x → getD (homesAfter G cap v) x 0 ≡ 0
   unfolding homesAfter homeless
   unplaced zero x h = homeless-at (G .net .n) x
   unplaced (suc v) x h = getD-set-other (homesAfter G cap v) v x (given v) 0 (λ z. omega arith) ∙ unplaced v x (omega arith)
@@ -67,7 +67,7 @@ module _ (G : Set) (cap : ℕ) where
   given-low homes v = omega arith
 
   -- a topology within the cap admits its node
-  given-admits : (homes : List ℕ) (v : ℕ) → firstTopology G cap homes v ≤ cap → Sound (withHomes G (set homes v (firstTopology G cap homes v))) (firstTopology G cap homes v)
+  pub given-admits : (homes : List ℕ) (v : ℕ) → firstTopology G cap homes v ≤ cap → Sound (withHomes G (set homes v (firstTopology G cap homes v))) (firstTopology G cap homes v)
   unfolding firstTopology admits
   given-admits homes v h = pick (lowest-is (λ j. admits G homes (suc j) v) cap cap)
     where
@@ -143,7 +143,7 @@ module _ (G : Set) (cap : ℕ) where
     unfolding firstFit
     home-low v l = let a = placed (G .net .n) v l (omega arith) in let b = given-low (homesAfter G cap v) v in omega arith
 
-    within : (v : ℕ) → v < G .net .n → firstTopology G cap (homesAfter G cap v) v ≤ cap
+    pub within : (v : ℕ) → v < G .net .n → firstTopology G cap (homesAfter G cap v) v ≤ cap
     unfolding firstFit
     within v l = let a = placed (G .net .n) v l (omega arith) in let b = home-high v l in omega arith
 

@@ -1,13 +1,11 @@
 -- Tables as bytes: what stands at each entry, and that a step or a run by the bytes of a set's own tables is the one by its rules.
-use mathlib.Core.Path.{_≡_, refl, sym, ap, ap₂, _∙_}
+use mathlib.Core.Path.{_≡_, refl, sym, ap, _∙_}
 use mathlib.Core.Bool.{Bool, true, false}
-use mathlib.Core.List.{List, _++_}
-use Prim.Native.Nat.{ℕ, zero, suc, _+_, _*_, _≤_, _<_}
-use native.Mathlib.Nat.{suc-mul, mul-le-mul-right}
+use mathlib.Core.List.{List}
+use Prim.Native.Nat.{ℕ, zero, suc, _+_, _≤_, _<_}
 use native.Mathlib.Omega.{arith}
 use lib.Dec.{eqb}
-use lib.ListN.{length, getD, length-append, List·getD-append}
-use lib.Seq.{getD-append-add}
+use lib.ListN.{length, getD}
 use borrow.Author.Tests.{eqb-false}
 use Rattle.rules.specs.declared.Packet.{Packet}
 use Rattle.rules.specs.declared.Kind.{Kind}
@@ -15,7 +13,7 @@ use Rattle.rules.specs.declared.Step.{Step}
 use Rattle.rules.specs.declared.Step.the-variants.{Delivered, Moved, Dropped}
 use Rattle.rules.specs.declared.Kind.the-variants as change
 use Rattle.rules.specs.declared.Outcome.the-variants as ended
-use Rattle.rules.specs.Basics.{if_then_else_, upTo, flat, laid}
+use Rattle.rules.specs.Basics.{if_then_else_, laid}
 use Rattle.rules.specs.Limits.{tablesLength}
 use Rattle.rules.specs.File.{Set}
 use Rattle.rules.specs.Isolation.{home}
@@ -23,7 +21,8 @@ use Rattle.rules.specs.Distance.{nextHop, alternate, tableBytes}
 use Rattle.rules.specs.Forwarding.{Tables, tablesOf, entryPlace, lentTables, moveOrDrop, changeTo, blocked, toward, step, Run, stop, onward, afterStep, run}
 use Rattle.rules.specs.Demands.{AcceptedSet}
 use Rattle.rules.proofs.Choices.{if-yes}
-use Rattle.rules.proofs.Rows.{length-upTo, getD-upTo, length-flat, getD-flat, getD-laid}
+use Rattle.rules.proofs.Rows.{getD-laid}
+use Rattle.rules.proofs.Square.{tables-long, inside, entry-at, last-at}
 use Rattle.rules.proofs.Homes.{home-high}
 use Rattle.rules.proofs.NextHops.{least-next-hops}
 use Rattle.rules.proofs.Runs.{Within, advance}
@@ -31,68 +30,22 @@ use Rattle.rules.proofs.Runs.{Within, advance}
 -- ---- the bytes
 
 module _ (S : Set) where
-  hop-row : ℕ → ℕ → List ℕ
-  hop-row i u = upTo (nextHop S i u) (S .net .n)
-
-  hop-table : ℕ → List ℕ
-  hop-table i = flat (hop-row i) (S .net .n)
-
-  hop-tables : List ℕ
-  hop-tables = flat hop-table (S .net .k + 1)
-
-  alternate-row : ℕ → List ℕ
-  alternate-row u = upTo (alternate S u) (S .net .n)
-
-  alternates : List ℕ
-  alternates = flat alternate-row (S .net .n)
-
-  row-long : (i u : ℕ) → length (hop-row i u) ≡ S .net .n
-  unfolding hop-row
-  row-long i u = length-upTo (nextHop S i u) (S .net .n)
-
-  table-long : (i : ℕ) → length (hop-table i) ≡ S .net .n * S .net .n
-  unfolding hop-table
-  table-long i = length-flat (hop-row i) (S .net .n) (S .net .n) (λ u l. row-long i u)
-
-  tables-long : length hop-tables ≡ (S .net .k + 1) * (S .net .n * S .net .n)
-  unfolding hop-tables
-  tables-long = length-flat hop-table (S .net .n * S .net .n) (S .net .k + 1) (λ i l. table-long i)
-
-  alternates-long : length alternates ≡ S .net .n * S .net .n
-  unfolding alternates alternate-row
-  alternates-long = length-flat alternate-row (S .net .n) (S .net .n) (λ u l. length-upTo (alternate S u) (S .net .n))
-
   pub bytes-long : length (tableBytes S) ≡ tablesLength (S .net)
-  unfolding tableBytes tablesLength hop-tables hop-table hop-row alternates alternate-row
-  bytes-long = length-append hop-tables alternates ∙ ap₂ (λ (x y : ℕ). x + y) tables-long alternates-long
-
-  inside : (u t : ℕ) → u < S .net .n → t < S .net .n → u * S .net .n + t < S .net .n * S .net .n
-  inside u t lu lt = omega (arith, suc-mul u (S .net .n), mul-le-mul-right {m = suc u} (S .net .n) lu)
+  unfolding tableBytes tablesLength
+  bytes-long = tables-long (nextHop S) (alternate S) (S .net .n) (S .net .k + 1)
 
   -- every entry lies in the bytes
   pub entry-inside : (i u t : ℕ) → i ≤ S .net .k + 1 → u < S .net .n → t < S .net .n → entryPlace (S .net) i u t < length (tableBytes S)
-  unfolding entryPlace tablesLength
-  entry-inside i u t li lu lt =
-      omega (arith, bytes-long, inside u t lu lt, mul-le-mul-right {m = i} {n = S .net .k + 1} (S .net .n * S .net .n) li)
+  unfolding entryPlace tableBytes
+  entry-inside i u t li lu lt = inside (nextHop S) (alternate S) (S .net .n) (S .net .k + 1) i u t li lu lt
 
   pub next-at : (i u t : ℕ) → i ≤ S .net .k → u < S .net .n → t < S .net .n → getD (tableBytes S) (entryPlace (S .net) i u t) 0 ≡ nextHop S i u t
-  unfolding tableBytes entryPlace hop-tables hop-table hop-row alternates alternate-row
-  next-at i u t li lu lt =
-      let l : i * (S .net .n * S .net .n) + (u * S .net .n + t) < length hop-tables =
-      omega (arith, tables-long, inside u t lu lt, suc-mul i (S .net .n * S .net .n), mul-le-mul-right {m = suc i} {n = S .net .k + 1} (S .net .n * S .net .n) (omega arith))
-      in
-      List·getD-append hop-tables alternates 0 (i * (S .net .n * S .net .n) + (u * S .net .n + t)) l
-      ∙ getD-flat hop-table (S .net .n * S .net .n) (S .net .k + 1) i (u * S .net .n + t) 0 (λ j h. table-long j) (omega arith) (inside u t lu lt)
-      ∙ getD-flat (hop-row i) (S .net .n) (S .net .n) u t 0 (λ x h. row-long i x) lu lt
-      ∙ getD-upTo (nextHop S i u) (S .net .n) t 0 lt
+  unfolding tableBytes entryPlace
+  next-at i u t li lu lt = entry-at (nextHop S) (alternate S) (S .net .n) (S .net .k + 1) i u t (omega arith) lu lt
 
   pub alternate-at : (u v : ℕ) → u < S .net .n → v < S .net .n → getD (tableBytes S) (entryPlace (S .net) (S .net .k + 1) u v) 0 ≡ alternate S u v
-  unfolding tableBytes entryPlace hop-tables hop-table hop-row alternates alternate-row
-  alternate-at u v lu lv =
-      ap (λ (x : ℕ). getD (hop-tables ++ alternates) (x + (u * S .net .n + v)) 0) (sym tables-long)
-      ∙ getD-append-add hop-tables alternates (u * S .net .n + v) 0
-      ∙ getD-flat alternate-row (S .net .n) (S .net .n) u v 0 (λ x h. length-upTo (alternate S x) (S .net .n)) lu lv
-      ∙ getD-upTo (alternate S u) (S .net .n) v 0 lv
+  unfolding tableBytes entryPlace
+  alternate-at u v lu lv = last-at (nextHop S) (alternate S) (S .net .n) (S .net .k + 1) u v lu lv
 
 -- ---- a step and a run by tables that agree with the rules
 

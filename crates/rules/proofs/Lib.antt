@@ -8,8 +8,11 @@ pub mod Records
 pub mod Fronts
 pub mod Again
 pub mod Accepted
-pub mod Same
 pub mod Determined
+pub mod Answering
+pub mod Needs
+pub mod Filed
+pub mod Same
 pub mod Order
 pub mod Examples
 pub mod Rounds
@@ -29,6 +32,10 @@ pub mod FirstFit
 pub mod Built
 pub mod BuildNumber
 pub mod Checked
+pub mod Square
+pub mod Tabled
+pub mod Stepped
+pub mod Placed
 pub mod BuildAnswers
 pub mod Steps
 pub mod Routing
@@ -39,4 +46,5 @@ pub mod ChangeKinds
 pub mod Lent
 pub mod Fits
 pub mod Answered
+pub mod Reported
 pub mod Shown

@@ -39,16 +39,26 @@ use Rattle.rules.specs.Answers.{refused}
 use Rattle.rules.specs.Entries.{Entry, Promise, NothingLent, Lists, readEntry, WriteInput, writeEntry, checkEntry, BuildInput, buildEntry, tablesEntry, StepInput, stepEntry, RunInput, RunLent, runEntry, reportEntry}
 
 -- ==== Demand 1. "Every entry takes every input. What is outside the written limits is refused by number and place, nothing lent is altered, no caller
--- has to check first." No entry has a `requires`; of its promise, where `lengths` are those of what it is lent:
+-- has to check first."
+
+-- 01's refusals are 1 to 15, and no place lies past the longest file
+abbrev pub InTable : ℕ → ℕ → Type 0
+InTable number place = (1 ≤ number) × (number ≤ 15) × (place < longest .file)
+
+-- so is what a verdict refuses by
+abbrev pub Numbered : Verdict → Type 0
+Numbered v = (number place : ℕ) → v ≡ Refused number place → InTable number place
+
+-- No entry has a `requires`; of its promise, where `lengths` are those of what it is lent:
 pub record TakesEveryInput {Input Lent Answer : Type 0} (E : Entry Input Lent Answer) (lengths : Lent → List ℕ) : Type 0 where
   -- whatever it is given and lent, the promise allows a result
   pub taken : (i : Input) (before : Lent) → (r : Answer) × (after : Lent) × Promise E i before r after
   -- a refusal tells its number and place
   pub refuses : (i : Input) (before : Lent) (r : Answer) (after : Lent) (number place : ℕ) → Promise E i before r after
       → E .verdict i before ≡ Refused number place → E .tells r ≡ refused number place
-  -- the number is one of 01's table, 1 to 15, and the place lies within the longest file
+  -- the number is one of 01's table and the place lies within the longest file
   pub numbered : (i : Input) (before : Lent) (r : Answer) (after : Lent) (number place : ℕ) → Promise E i before r after
-      → E .tells r ≡ refused number place → (1 ≤ number) × (number ≤ 15) × (place < longest .file)
+      → E .tells r ≡ refused number place → InTable number place
   -- and what was lent is as it came
   pub unaltered : (i : Input) (before : Lent) (r : Answer) (after : Lent) (number place : ℕ) → Promise E i before r after
       → E .tells r ≡ refused number place → after ≡ before

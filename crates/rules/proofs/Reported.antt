@@ -1,0 +1,53 @@
+-- Of the entry `report`: what it accepts, and what it then answers and leaves.
+use mathlib.Core.Path.{_≡_, sym, ap, subst, _∙_}
+use mathlib.Core.List.{List}
+use Prim.Native.Nat.{ℕ, _≤_}
+use lib.ListN.{length}
+use Rattle.rules.specs.declared.Verdict.the-variants.{Accepted}
+use Rattle.rules.specs.declared.LengthAnswer.the-variants as long
+use Rattle.rules.specs.Basics.{laid}
+use Rattle.rules.specs.Limits.{longest, reportRoom}
+use Rattle.rules.specs.File.{Set, setOf}
+use Rattle.rules.specs.Judgement.{needRoom}
+use Rattle.rules.specs.Report.{reportText}
+use Rattle.rules.specs.Entries.{reportEntry}
+use Rattle.rules.specs.Demands.{Bytes, AcceptsExactly, ThenGives, IsLength, Front, ReportMeets, ReportGives, ReportFits}
+use Rattle.rules.proofs.Choices.{then-ok, then-first, then-second}
+use Rattle.rules.proofs.Answering.{accepts, told, left, front-laid, length-values, length-is}
+use Rattle.rules.proofs.Needs.{room-ok, room-long}
+use Rattle.rules.proofs.Tabled.{accepted-file, file-checked, its-set}
+use Rattle.rules.proofs.Fits.{report-longest}
+
+report-asked : (s lent : List ℕ) → Bytes s → reportEntry .verdict s lent ≡ Accepted → (S : Set) × ReportMeets S s lent
+unfolding reportEntry
+report-asked s lent small e = (
+  setOf s,
+  record { file = accepted-file s small (then-first _ _ e); room = room-long (length (reportText (setOf s))) lent (then-second _ _ e) },
+)
+
+report-meets : (S : Set) (s lent : List ℕ) → ReportMeets S s lent → reportEntry .verdict s lent ≡ Accepted
+unfolding reportEntry
+report-meets S s lent M =
+    then-ok _ _ (file-checked S s (M .file))
+    ∙ ap (λ (T : Set). needRoom (length (reportText T)) lent) (its-set S s (M .file))
+    ∙ room-ok (length (reportText S)) lent (M .room)
+
+pub report-accepts : AcceptsExactly reportEntry IsLength Bytes ReportMeets
+unfolding reportEntry
+report-accepts =
+    accepts reportEntry IsLength Bytes ReportMeets length-values (λ s d r e. (length (reportText (setOf s)), length-is r (length (reportText (setOf s))) e)) report-asked report-meets
+
+pub report-gives : ThenGives reportEntry ReportMeets ReportGives
+unfolding reportEntry
+report-gives S s before after r P M =
+    let e = report-meets S s before M in
+    let T = its-set S s (M .file) in
+    let lent : after ≡ laid (reportText S) before = left reportEntry s before after r P e ∙ ap (λ (x : Set). laid (reportText x) before) T in
+    record {
+      answer = length-is r (length (reportText (setOf s))) (told reportEntry s before after r P e) ∙ ap (λ (x : Set). long.Length (length (reportText x))) T;
+      text = subst (λ (x : List ℕ). Front (reportText S) before x) (sym lent) (front-laid (reportText S) before);
+    }
+
+pub report-fits : ReportFits
+unfolding longest reportRoom
+report-fits S A = report-longest S A

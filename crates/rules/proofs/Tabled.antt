@@ -1,0 +1,124 @@
+-- Demand 2 of the entries `check` and `tables`: what each accepts, and what `tables` then answers and leaves, byte by byte.
+use mathlib.Core.Path.{_≡_, refl, sym, ap, ap₂, subst, _∙_}
+use mathlib.Core.Bool.{Bool, true, false, not, _&&_}
+use mathlib.Core.Logic.{_⊎_, inl, inr}
+use mathlib.Core.List.{List, []}
+use Prim.Native.Nat.{ℕ, _+_, _≤_, _<_}
+use native.Mathlib.Omega.{arith}
+use lib.Dec.{eqb}
+use lib.ListN.{length, getD, drop}
+use borrow.Author.Tests.{eq-eqb}
+use Rattle.rules.specs.declared.Network.{Network}
+use Rattle.rules.specs.declared.Verdict.the-variants.{Accepted}
+use Rattle.rules.specs.declared.LengthAnswer.the-variants as long
+use Rattle.rules.specs.Basics.{if_then_else_, laid}
+use Rattle.rules.specs.Limits.{tablesLength}
+use Rattle.rules.specs.File.{Set, headerOf, setOf}
+use Rattle.rules.specs.Isolation.{neighbours, home}
+use Rattle.rules.specs.Distance.{nextHop, alternate, tableBytes}
+use Rattle.rules.specs.Forwarding.{entryPlace}
+use Rattle.rules.specs.Judgement.{check, needRoom}
+use Rattle.rules.specs.Entries.{NothingLent, checkEntry, tablesEntry}
+use Rattle.rules.specs.Demands.{Bytes, AcceptedSet, AcceptsExactly, ThenGives, IsAccepted, IsLength, FileOf, AcceptedFile, CheckMeets, NextHopIs, AlternateIs, TablesMeet, TablesGive}
+use Rattle.rules.proofs.Choices.{if-yes, if-no, then-ok, then-first, then-second}
+use Rattle.rules.proofs.Rows.{getD-laid, laid-rest}
+use Rattle.rules.proofs.Square.{tables-long, inside, entry-at, last-at}
+use Rattle.rules.proofs.Held.{net-held}
+use Rattle.rules.proofs.Accepted.{judged}
+use Rattle.rules.proofs.Checked.{checked-file, checked-set, encode-checked}
+use Rattle.rules.proofs.NextHops.{least-next-hops, nearest-alternates}
+use Rattle.rules.proofs.Answering.{accepts, told, left, verdict-values, verdict-is, length-values, length-is}
+use Rattle.rules.proofs.Needs.{room-ok, room-long}
+use Rattle.rules.proofs.Filed.{file-header, file-set}
+
+-- ---- what the file of an accepted set holds
+
+module _ (S : Set) (s : List ℕ) (F : AcceptedFile S s) where
+  pub its-file : FileOf S s
+  its-file = record { rules = F .accepted .rules; bytes = F .bytes }
+
+  pub file-checked : check s ≡ Accepted
+  file-checked = ap check (sym (F .bytes)) ∙ encode-checked S (F .accepted)
+
+  pub its-header : headerOf s ≡ S .net
+  its-header = file-header S s its-file
+
+  pub its-set : setOf s ≡ S
+  its-set = file-set S s its-file
+
+-- checked bytes are the file of the accepted set that they hold
+pub accepted-file : (s : List ℕ) → Bytes s → check s ≡ Accepted → AcceptedFile (setOf s) s
+accepted-file s small e = record { accepted = checked-set s e; bytes = judged s (checked-file s e) .bytes small }
+
+-- ---- check
+
+pub check-accepts : AcceptsExactly checkEntry IsAccepted Bytes CheckMeets
+unfolding checkEntry
+check-accepts =
+    accepts checkEntry IsAccepted Bytes CheckMeets verdict-values (λ s d r e. verdict-is r e)
+    (λ s d small e. (setOf s, accepted-file s small e)) (λ S s d F. file-checked S s F)
+
+-- ---- tables
+
+tables-asked : (s lent : List ℕ) → Bytes s → tablesEntry .verdict s lent ≡ Accepted → (S : Set) × TablesMeet S s lent
+unfolding tablesEntry
+tables-asked s lent small e = (
+  setOf s,
+  record {
+    file = accepted-file s small (then-first _ _ e);
+    room = subst (λ (h : Network). tablesLength h ≤ length lent) (sym (net-held s)) (room-long (tablesLength (headerOf s)) lent (then-second _ _ e));
+  },
+)
+
+pub tables-meets : (S : Set) (s lent : List ℕ) → TablesMeet S s lent → tablesEntry .verdict s lent ≡ Accepted
+unfolding tablesEntry
+tables-meets S s lent M =
+    then-ok _ _ (file-checked S s (M .file))
+    ∙ ap (λ (h : Network). needRoom (tablesLength h) lent) (its-header S s (M .file))
+    ∙ room-ok (tablesLength (S .net)) lent (M .room)
+
+pub tables-accepts : AcceptsExactly tablesEntry IsLength Bytes TablesMeet
+unfolding tablesEntry
+tables-accepts =
+    accepts tablesEntry IsLength Bytes TablesMeet length-values (λ s d r e. (tablesLength (headerOf s), length-is r (tablesLength (headerOf s)) e)) tables-asked tables-meets
+
+own-entry : (S : Set) (i u : ℕ) → nextHop S i u u ≡ u
+unfolding nextHop
+own-entry S i u = if-yes (eqb u u) u _ (eq-eqb u u refl)
+
+no-alternate : (S : Set) (u v : ℕ) → (neighbours S u v ≡ false) ⊎ (home S u ≡ home S v) → alternate S u v ≡ 255
+unfolding alternate
+no-alternate S u v h = if-no (neighbours S u v && not (eqb (home S u) (home S v))) _ 255 (apart (neighbours S u v) (eqb (home S u) (home S v)) h)
+  where
+    apart : (a b : Bool) → (a ≡ false) ⊎ (home S u ≡ home S v) → (a && not (eqb (home S u) (home S v))) ≡ false
+    apart a b (inl e) = rw e
+    apart true b (inr e) = rw (eq-eqb (home S u) (home S v) e)
+    apart false b (inr e) = refl
+
+pub tables-gives : ThenGives tablesEntry TablesMeet TablesGive
+unfolding tablesEntry tableBytes entryPlace tablesLength
+tables-gives S s before after r P M =
+    let e = tables-meets S s before M in
+    let A = M .file .accepted in
+    let lent : after ≡ laid (tableBytes S) before = left tablesEntry s before after r P e ∙ ap (λ (T : Set). laid (tableBytes T) before) (its-set S s (M .file)) in
+    let n : ℕ = S .net .n in
+    let c : ℕ = S .net .k + 1 in
+    let next-there : (i u t : ℕ) → i ≤ S .net .k → u < n → t < n → getD after (entryPlace (S .net) i u t) 0 ≡ nextHop S i u t =
+    λ i u t li lu lt. ap (λ (l : List ℕ). getD l (entryPlace (S .net) i u t) 0) lent
+        ∙ getD-laid (tableBytes S) before (entryPlace (S .net) i u t) 0 (inside (nextHop S) (alternate S) n c i u t (omega arith) lu lt)
+        ∙ entry-at (nextHop S) (alternate S) n c i u t (omega arith) lu lt
+    in
+    let alternate-there : (u v : ℕ) → u < n → v < n → getD after (entryPlace (S .net) c u v) 0 ≡ alternate S u v =
+    λ u v lu lv. ap (λ (l : List ℕ). getD l (entryPlace (S .net) c u v) 0) lent
+        ∙ getD-laid (tableBytes S) before (entryPlace (S .net) c u v) 0 (inside (nextHop S) (alternate S) n c c u v (omega arith) lu lv)
+        ∙ last-at (nextHop S) (alternate S) n c u v lu lv
+    in
+    record {
+      answer = length-is r (tablesLength (headerOf s)) (told tablesEntry s before after r P e) ∙ ap (λ (h : Network). long.Length (tablesLength h)) (its-header S s (M .file));
+      next = λ i u t li lu lt ne. subst (λ (w : ℕ). NextHopIs S i u t w) (sym (next-there i u t li lu lt)) (least-next-hops S A i u t li lu lt ne);
+      own = λ i u li lu. next-there i u u li lu lu ∙ own-entry S i u;
+      alternate = λ u v lu lv joined apart. subst (λ (w : ℕ). AlternateIs S u v w) (sym (alternate-there u v lu lv)) (nearest-alternates S A u v lu lv joined apart);
+      none = λ u v lu lv h. alternate-there u v lu lv ∙ no-alternate S u v h;
+      rest = ap (drop (tablesLength (S .net))) lent ∙ ap (λ (x : ℕ). drop x (laid (tableBytes S) before)) (sym (tables-long (nextHop S) (alternate S) n c))
+          ∙ laid-rest (tableBytes S) before ∙ ap (λ (x : ℕ). drop x before) (tables-long (nextHop S) (alternate S) n c);
+    }
