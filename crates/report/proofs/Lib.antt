@@ -2,4 +2,3 @@ pub mod Texts
 pub mod Seens
 pub mod Wholes
 pub mod Answers
-pub mod Coverage

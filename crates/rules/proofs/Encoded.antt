@@ -71,10 +71,10 @@ module _ (S : Set) where
 
   -- ---- byte j of each record
 
-  moved : (p q v : ℕ) → p ≡ q → getD (encode S) q 0 ≡ v → getD (encode S) p 0 ≡ v
+  pub moved : (p q v : ℕ) → p ≡ q → getD (encode S) q 0 ≡ v → getD (encode S) p 0 ≡ v
   moved p q v e d = ap (λ (x : ℕ). getD (encode S) x 0) e ∙ d
 
-  at-header : (j : ℕ) → j < 8 → getD (encode S) j 0 ≡ getD (headerBytes (S .net)) j 0
+  pub at-header : (j : ℕ) → j < 8 → getD (encode S) j 0 ≡ getD (headerBytes (S .net)) j 0
   unfolding encode
   at-header j h = List·getD-append (headerBytes (S .net)) (links ++ (homes ++ rows)) 0 j (omega (arith, header-long))
 
@@ -88,7 +88,7 @@ module _ (S : Set) where
       ∙ ap (λ (x : ℕ). getD (links ++ (homes ++ rows)) (x + p) 0) (sym links-long)
       ∙ getD-append-add links (homes ++ rows) p 0
 
-  at-link : (l j : ℕ) → l < S .net .m → j < 6 → getD (encode S) (linkPlace l + j) 0 ≡ getD (linkBytes S l) j 0
+  pub at-link : (l j : ℕ) → l < S .net .m → j < 6 → getD (encode S) (linkPlace l + j) 0 ≡ getD (linkBytes S l) j 0
   unfolding linkPlace
   at-link l j h g =
       moved (8 + 6 * l + j) (8 + (l * 6 + j)) _ (omega arith)
@@ -96,7 +96,7 @@ module _ (S : Set) where
       ∙ List·getD-append links (homes ++ rows) 0 (l * 6 + j) (omega (arith, links-long))
       ∙ getD-flat (linkBytes S) 6 (S .net .m) l j 0 link-long h g)
 
-  at-home : (v j : ℕ) → v < homeRecords (S .net) → j < 4 → getD (encode S) (homePlace (S .net) v + j) 0 ≡ getD (homeBytes S v) j 0
+  pub at-home : (v j : ℕ) → v < homeRecords (S .net) → j < 4 → getD (encode S) (homePlace (S .net) v + j) 0 ≡ getD (homeBytes S v) j 0
   unfolding linkPlace homePlace
   at-home v j h g =
       moved (8 + 6 * S .net .m + 4 * v + j) (8 + (S .net .m * 6 + (v * 4 + j))) _ (omega arith)
@@ -104,7 +104,7 @@ module _ (S : Set) where
       ∙ List·getD-append homes rows 0 (v * 4 + j) (omega (arith, homes-long))
       ∙ getD-flat (homeBytes S) 4 (homeRecords (S .net)) v j 0 home-long h g)
 
-  at-row : (j x : ℕ) → j < S .net .k → x < rowLength (S .net) → getD (encode S) (rowPlace (S .net) j + x) 0 ≡ getD (rowBytes S j) x 0
+  pub at-row : (j x : ℕ) → j < S .net .k → x < rowLength (S .net) → getD (encode S) (rowPlace (S .net) j + x) 0 ≡ getD (rowBytes S j) x 0
   unfolding linkPlace homePlace rowPlace
   at-row j x h g =
       let r : ℕ = j * rowLength (S .net) in
@@ -114,7 +114,7 @@ module _ (S : Set) where
       ∙ getD-append-add homes rows (r + x) 0
       ∙ getD-flat (rowBytes S) (rowLength (S .net)) (S .net .k) j x 0 row-long h g)
 
-  at-weight : (j x t : ℕ) → j < S .net .k → x < rowWeights (S .net) → t < 2 → getD (encode S) (rowPlace (S .net) j + (3 + (x * 2 + t))) 0 ≡ getD (weight j x) t 0
+  pub at-weight : (j x t : ℕ) → j < S .net .k → x < rowWeights (S .net) → t < 2 → getD (encode S) (rowPlace (S .net) j + (3 + (x * 2 + t))) 0 ≡ getD (weight j x) t 0
   unfolding rowBytes rowLength
   at-weight j x t h g i =
       at-row j (3 + (x * 2 + t)) h (omega arith)

@@ -4,6 +4,7 @@ pub mod Numbers
 pub mod Rows
 pub mod Encoded
 pub mod Held
+pub mod LaidOut
 pub mod Records
 pub mod Fronts
 pub mod Again
@@ -42,9 +43,11 @@ pub mod Routing
 pub mod Runs
 pub mod Delivery
 pub mod Lines
+pub mod Coverage
 pub mod ChangeKinds
 pub mod Lent
 pub mod Fits
 pub mod Answered
 pub mod Reported
+pub mod Kept
 pub mod Shown

@@ -1,5 +1,16 @@
--- Demands 2 and 3, each statement with its theorem. Demand 1 is `demand-1` in `Determined`.
-use Rattle.rules.specs.Demands.{Demand2, Demand3}
+-- Demands 1 to 3, each statement with its theorem.
+use mathlib.Core.Path.{refl}
+use Rattle.rules.specs.File.{headerOf}
+use Rattle.rules.specs.Entries.{readEntry, writeEntry, checkEntry, buildEntry, tablesEntry, stepOf, stepEntry, runOf, runEntry, reportEntry}
+use Rattle.rules.specs.Demands.{noLengths, itsLength, listLengths, runLengths, Demand1, Demand2, Demand3}
+use Rattle.rules.proofs.Determined.{takes-every-input, read-one, length-one, verdict-one, step-one, run-one, read-says, length-says, verdict-says, step-says, run-says}
+use Rattle.rules.proofs.Numbered.{read-numbered, write-numbered, check-numbered, build-numbered, tables-numbered, step-numbered, run-numbered, report-numbered}
+use Rattle.rules.proofs.Kept.{read-kept, write-kept, build-kept, tables-kept, run-kept, report-kept}
+use Rattle.rules.proofs.LaidOut.{files-laid-out}
+use Rattle.rules.proofs.Filed.{read-accepts, read-gives, write-accepts, write-gives}
+use Rattle.rules.proofs.Tabled.{check-accepts, tables-accepts, tables-gives}
+use Rattle.rules.proofs.Stepped.{step-accepts, step-gives}
+use Rattle.rules.proofs.Reported.{report-accepts, report-gives, report-fits}
 use Rattle.rules.proofs.Accepted.{accepted-exactly, one-set, longest-file}
 use Rattle.rules.proofs.Same.{same-bytes, reads-back}
 use Rattle.rules.proofs.Checked.{checked-exactly}
@@ -8,19 +19,42 @@ use Rattle.rules.proofs.NextHops.{least-next-hops, nearest-alternates}
 use Rattle.rules.proofs.Runs.{always-bounded, moves-on-usable}
 use Rattle.rules.proofs.Delivery.{delivery, lost-with-node}
 use Rattle.rules.proofs.ChangeKinds.{kinds}
-use Rattle.rules.proofs.Answered.{delivered-by-run}
+use Rattle.rules.proofs.Answered.{run-accepts, run-gives, delivered-by-run}
 use Rattle.rules.proofs.Lines.{lines-are-runs}
+use Rattle.rules.proofs.Coverage.{coverage}
 use Rattle.rules.proofs.FirstFit.{built-exactly}
 use Rattle.rules.proofs.Built.{built-accepted}
-use Rattle.rules.proofs.BuildAnswers.{build-answers}
+use Rattle.rules.proofs.BuildAnswers.{build-accepts, build-gives, build-answers}
 use Rattle.rules.proofs.BuildNumber.{nine-exactly, ten-exactly}
 use Rattle.rules.proofs.Removal.{accepted-connected, accepted-removable}
 use Rattle.rules.proofs.Degree.{links-enough}
 use Rattle.rules.proofs.Sound.{fewer-isolated}
 
+pub demand-1 : Demand1
+unfolding readEntry writeEntry checkEntry buildEntry tablesEntry stepEntry stepOf runEntry reportEntry
+demand-1 =
+    record {
+      read = takes-every-input readEntry listLengths (λ v s d. read-says v (headerOf s)) read-one read-kept read-numbered;
+      write = takes-every-input writeEntry itsLength (λ v i d. length-says v _) length-one write-kept write-numbered;
+      check = takes-every-input checkEntry noLengths (λ v s d. verdict-says v) verdict-one (λ s d e. refl) check-numbered;
+      build = takes-every-input buildEntry itsLength (λ v i d. length-says v _) length-one build-kept build-numbered;
+      tables = takes-every-input tablesEntry itsLength (λ v s d. length-says v _) length-one tables-kept tables-numbered;
+      step = takes-every-input stepEntry noLengths (λ v i d. step-says v _) step-one (λ i d e. refl) step-numbered;
+      run = takes-every-input runEntry runLengths (λ v i d. run-says v (runOf i)) run-one run-kept run-numbered;
+      report = takes-every-input reportEntry itsLength (λ v s d. length-says v _) length-one report-kept report-numbered;
+    }
+
 pub demand-2 : Demand2
 demand-2 =
     record {
+      files-laid-out = files-laid-out;
+      read-accepts = read-accepts;
+      read-gives = read-gives;
+      write-accepts = write-accepts;
+      write-gives = write-gives;
+      check-accepts = check-accepts;
+      tables-accepts = tables-accepts;
+      tables-gives = tables-gives;
       accepted-exactly = accepted-exactly;
       one-set = one-set;
       longest-file = longest-file;
@@ -40,10 +74,20 @@ demand-3 =
       lost-with-node = lost-with-node;
       moves-on-usable = moves-on-usable;
       kinds-are = λ S A on p q kind lu lt li. kinds S A on p (record { node = lu; end = lt; known = li }) q kind;
+      step-accepts = step-accepts;
+      step-gives = step-gives;
+      run-accepts = run-accepts;
+      run-gives = run-gives;
       delivered-by-run = delivered-by-run;
+      report-accepts = report-accepts;
+      report-gives = report-gives;
+      report-fits = report-fits;
       lines-are-runs = lines-are-runs;
+      covered = coverage;
       built-exactly = built-exactly;
       built-accepted = built-accepted;
+      build-accepts = build-accepts;
+      build-gives = build-gives;
       build-answers = build-answers;
       refused-exactly = λ G cap R. (nine-exactly G cap R, ten-exactly G cap R);
       accepted-graphs = λ S A. record { connected = accepted-connected S A; removable = accepted-removable S A; links = links-enough S A };

@@ -3,7 +3,7 @@ use mathlib.Core.Path.{_≡_}
 use mathlib.Core.Logic.{_↔_, _⊎_}
 use mathlib.Core.Bool.{Bool, true, false, not, _&&_}
 use mathlib.Core.List.{List, [], _∷_}
-use Prim.Native.Nat.{ℕ, suc, _+_, _-_, _*_, _≤_, _<_}
+use Prim.Native.Nat.{ℕ, suc, _+_, _-_, _*_, _/_, _%_, _≤_, _<_}
 use lib.Dec.{eqb, ltb}
 use lib.ListN.{length, getD, set, take, drop}
 use Rattle.rules.specs.declared.Network.{Network}
@@ -26,7 +26,7 @@ use Rattle.rules.specs.declared.LengthAnswer.{LengthAnswer}
 use Rattle.rules.specs.declared.LengthAnswer.the-variants as long
 use Rattle.rules.specs.declared.RunAnswer.{RunAnswer}
 use Rattle.rules.specs.declared.RunAnswer.the-variants as ran
-use Rattle.rules.specs.Basics.{if_then_else_, upTo}
+use Rattle.rules.specs.Basics.{if_then_else_, upTo, flat}
 use Rattle.rules.specs.Limits.{homeRecords, rowWeights, rowHeadLength, weightLength, linkPlace, homePlace, rowPlace, fileLength, tablesLength, mostHops, trailRoom, longest}
 use Rattle.rules.specs.File.{Set, encode}
 use Rattle.rules.specs.Isolation.{neighbours, home, isolated, backbone, class, Normal, rowInForce, hopWeight, usable, normalHop}
@@ -34,7 +34,7 @@ use Rattle.rules.specs.Distance.{Path, LeastTotal, distance, nextHop, ca
 use Rattle.rules.specs.Forwarding.{Fault, nothing, link, nodes, faultOf, failed, up, Tables, tablesOf, entryPlace, lentTables, packet, step, Run, hops, trail, run}
 use Rattle.rules.specs.Building.{withHomes, firstFit, fits, highest, built, buildNumber}
 use Rattle.rules.specs.Judgement.{judge, check}
-use Rattle.rules.specs.Report.{detectedLink, detection, runUnder, reportText}
+use Rattle.rules.specs.Report.{detectedLink, detection, runUnder, detectionLine, detectionLines, reportText}
 use Rattle.rules.specs.Answers.{refused}
 use Rattle.rules.specs.Entries.{Entry, Promise, NothingLent, Lists, readEntry, WriteInput, writeEntry, checkEntry, BuildInput, buildEntry, tablesEntry, StepInput, stepEntry, RunInput, RunLent, runEntry, reportEntry}
 
@@ -590,6 +590,47 @@ LinesAreRuns =
     (S : Set) → AcceptedSet S → (u t : ℕ) → u < S .net .n → t < S .net .n → (u ≡ t → ⊥)
     → LineIsRun S u t (runUnder S (link (detectedLink S u t)) u t)
 
+-- destination number j of node u: every node but u
+unfoldable pub other : ℕ → ℕ → ℕ
+other u j = if ltb j u then j else suc j
+
+-- pair x of the ordered pairs of different nodes, numbered by node, then destination: its node
+unfoldable pub nodeAt : ℕ → ℕ → ℕ
+nodeAt n x = x / (n - 1)
+
+-- and its destination
+unfoldable pub endAt : ℕ → ℕ → ℕ
+endAt n x = other (nodeAt n x) (x % (n - 1))
+
+-- the pair (u, t) has a number
+pub record Listed (n u t : ℕ) : Type 0 where
+  pub number : ℕ
+  pub low : number < n * (n - 1)
+  pub node : nodeAt n number ≡ u
+  pub end : endAt n number ≡ t
+
+-- what the lines of a report cover
+pub record Coverage (S : Set) : Type 0 where
+  -- one line for each number below n × (n - 1), in order
+  pub lines : detectionLines S ≡ flat (λ x. detectionLine S (nodeAt (S .net .n) x) (endAt (S .net .n) x)) (S .net .n * (S .net .n - 1))
+  -- each is a pair of different nodes
+  pub pairs : (x : ℕ) → x < S .net .n * (S .net .n - 1)
+      → (nodeAt (S .net .n) x < S .net .n) × (endAt (S .net .n) x < S .net .n) × (nodeAt (S .net .n) x ≡ endAt (S .net .n) x → ⊥)
+  -- none is missing
+  pub each : (u t : ℕ) → u < S .net .n → t < S .net .n → (u ≡ t → ⊥) → Listed (S .net .n) u t
+  -- by node, then destination: none stands twice
+  pub order : (x y : ℕ) → x < y → y < S .net .n * (S .net .n - 1)
+      → (nodeAt (S .net .n) x < nodeAt (S .net .n) y) ⊎ ((nodeAt (S .net .n) x ≡ nodeAt (S .net .n) y) × (endAt (S .net .n) x < endAt (S .net .n) y))
+  -- each line is what the run does with the link to the next hop down
+  pub runs : (x : ℕ) → x < S .net .n * (S .net .n - 1)
+      → LineIsRun S (nodeAt (S .net .n) x) (endAt (S .net .n) x) (runUnder S (link (detectedLink S (nodeAt (S .net .n) x) (endAt (S .net .n) x))) (nodeAt (S .net .n) x) (endAt (S .net .n) x))
+  -- both ends of every link have theirs
+  pub ends : (l : ℕ) → l < S .net .m → Listed (S .net .n) (at (S .a) l) (at (S .b) l) × Listed (S .net .n) (at (S .b) l) (at (S .a) l)
+
+-- the report of every accepted set covers every detection
+abbrev pub Covered : Type 0
+Covered = (S : Set) → AcceptedSet S → Coverage S
+
 -- ---- "Our builder, allowed n topologies, succeeds exactly when removing any one router leaves the others connected."
 
 -- u and w are joined by a link, and neither is v
@@ -705,6 +746,7 @@ pub record Demand3 : Type 0 where
   pub report-gives : ThenGives reportEntry ReportMeets ReportGives
   pub report-fits : ReportFits
   pub lines-are-runs : LinesAreRuns
+  pub covered : Covered
   pub built-exactly : BuiltExactly
   pub built-accepted : BuiltAccepted
   pub build-accepts : AcceptsExactly buildEntry IsLength (λ i. Bytes (i .file)) BuildMeets

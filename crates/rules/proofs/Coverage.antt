@@ -11,50 +11,13 @@ use lib.Arith.{digits-div, digits-mod}
 use lib.Dec.{eqb, ltb}
 use lib.ListN.{getD}
 use borrow.Author.Tests.{eq-eqb, ne-eqb, lt-ltb, le-ltb, ltb-true, ltb-false}
 use Rattle.rules.specs.Basics.{if_then_else_, flat}
 use Rattle.rules.specs.File.{Set}
-use Rattle.rules.specs.Forwarding.{link}
-use Rattle.rules.specs.Report.{detectedLink, runUnder, detectionLine, detectionLines}
-use Rattle.rules.specs.Demands.{AcceptedSet, LineIsRun}
+use Rattle.rules.specs.Report.{detectionLine, detectionLines}
+use Rattle.rules.specs.Demands.{AcceptedSet, other, nodeAt, endAt, Listed, Coverage, Covered}
 use Rattle.rules.proofs.Choices.{if-yes, if-no}
 use Rattle.rules.proofs.Rows.{flat-ext}
 use Rattle.rules.proofs.Lines.{lines-are-runs}
-
--- ---- the ordered pairs of different nodes, numbered by node, then destination
-
--- destination number j of node u: every node but u
-unfoldable pub other : ℕ → ℕ → ℕ
-other u j = if ltb j u then j else suc j
-
-unfoldable pub nodeAt : ℕ → ℕ → ℕ
-nodeAt n x = x / (n - 1)
-
-unfoldable pub endAt : ℕ → ℕ → ℕ
-endAt n x = other (nodeAt n x) (x % (n - 1))
-
--- the pair (u, t) has a number
-pub record Listed (n u t : ℕ) : Type 0 where
-  pub number : ℕ
-  pub low : number < n * (n - 1)
-  pub node : nodeAt n number ≡ u
-  pub end : endAt n number ≡ t
-
-pub record Coverage (S : Set) : Type 0 where
-  -- one line for each number below n × (n - 1), in order
-  pub lines : detectionLines S ≡ flat (λ x. detectionLine S (nodeAt (S .net .n) x) (endAt (S .net .n) x)) (S .net .n * (S .net .n - 1))
-  -- each is a pair of different nodes
-  pub pairs : (x : ℕ) → x < S .net .n * (S .net .n - 1)
-      → (nodeAt (S .net .n) x < S .net .n) × (endAt (S .net .n) x < S .net .n) × (nodeAt (S .net .n) x ≡ endAt (S .net .n) x → ⊥)
-  -- none is missing
-  pub each : (u t : ℕ) → u < S .net .n → t < S .net .n → (u ≡ t → ⊥) → Listed (S .net .n) u t
-  -- by node, then destination: none stands twice
-  pub order : (x y : ℕ) → x < y → y < S .net .n * (S .net .n - 1)
-      → (nodeAt (S .net .n) x < nodeAt (S .net .n) y) ⊎ ((nodeAt (S .net .n) x ≡ nodeAt (S .net .n) y) × (endAt (S .net .n) x < endAt (S .net .n) y))
-  -- each line is what the run does with the link to the next hop down
-  pub runs : (x : ℕ) → x < S .net .n * (S .net .n - 1)
-      → LineIsRun S (nodeAt (S .net .n) x) (endAt (S .net .n) x) (runUnder S (link (detectedLink S (nodeAt (S .net .n) x) (endAt (S .net .n) x))) (nodeAt (S .net .n) x) (endAt (S .net .n) x))
-  -- both ends of every link
-  pub ends : (l : ℕ) → l < S .net .m → Listed (S .net .n) (getD (S .a) l 0) (getD (S .b) l 0) × Listed (S .net .n) (getD (S .b) l 0) (getD (S .a) l 0)
 
 -- ---- destinations
 
@@ -182,7 +145,7 @@ module _ (S : Set) (A : AcceptedSet S) where
       flat-ext (λ u. flat (but (detectionLine S u) u) size) (λ u. flat (λ j. detectionLine S u (other u j)) (size - 1)) size (λ u l. all-but (detectionLine S u) u size l)
       ∙ flat-flat (λ u j. detectionLine S u (other u j)) (size - 1) size
 
-pub coverage : (S : Set) → AcceptedSet S → Coverage S
+pub coverage : Covered
 coverage S A =
     record {
       lines = lines-of S A;
