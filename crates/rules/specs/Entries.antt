@@ -229,13 +229,13 @@ runEntry =
           record { tables = laid (tableBytes (setOf (i .file))) (d .tables); trail = laid (trail (i .source) (runOf i)) (d .trail) };
     }
 
--- ---- report: from a file into room for the longest text. Refusals 1 to 6, 13, 7 and 8
+-- ---- report: from a file into lent room for its text. Refusals 1 to 6, 13, 7 and 8, 14: room for the longest report is always enough (`ReportFits`)
 
 -- the entry `report`
 unfoldable pub reportEntry : Entry (List ℕ) (List ℕ) LengthAnswer
 reportEntry =
     record {
-      verdict = λ s d. check s;
+      verdict = λ s d. andThen (check s) (needRoom (length (reportText (setOf s))) d);
       tells = lengthTells;
       gives = λ s d. length (reportText (setOf s)) ∷ [];
       leaves = λ s d. laid (reportText (setOf s)) d;
