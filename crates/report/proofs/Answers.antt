@@ -2,7 +2,7 @@
 use mathlib.Core.Path.{_≡_, refl, sym, ap, _∙_}
 use mathlib.Core.List.{List, [], _∷_, _++_}
 use Prim.Native.Nat.{ℕ, _+_, _*_, _≤_}
-use native.Mathlib.Nat.{mul-le-mul, zero-add}
+use native.Mathlib.Nat.{zero-add}
 use native.Mathlib.Omega.{arith}
 use lib.Dec.{leb}
 use lib.ListN.{length}
@@ -20,12 +20,14 @@ use Rattle.rules.specs.Judgement.{andThen, needRoom, check}
 use Rattle.rules.specs.Report.{decimal, newline, reportText, refusalLine, printed}
 use Rattle.rules.specs.Answers.{accepted, refused, tell, lengthTells}
 use Rattle.rules.specs.Entries.{onAccept, Promise, tablesEntry, reportEntry}
+use Rattle.rules.specs.Demands.{WithinLimits}
 use Rattle.rules.proofs.Choices.{need-ok, refuse-zero, then-ok, then-no, then-first, then-second}
 use Rattle.rules.proofs.Rows.{length-laid}
 use Rattle.rules.proofs.Same.{room-ok}
 use Rattle.rules.proofs.Held.{net-held}
 use Rattle.rules.proofs.Checked.{checked-set}
 use Rattle.rules.proofs.Fits.{report-longest}
+use Rattle.rules.proofs.Values.{longest-tables}
 use Rattle.report.specs.Text.{Wrote}
 use Rattle.report.specs.Lines.{Ready}
 use Rattle.report.specs.Answer.{Made, Says, it, line, Printed}
@@ -44,12 +46,6 @@ turned-down Accepted values number place e = let z : _≡_ {A = ℕ} 0 1 = cc in
 turned-down (Refused x y) values number place e = cc
 
 -- ---- room for the longest tables, and for the longest report
-
-longest-tables : (h : Network) → h .n ≤ 32 → h .k ≤ 32 → tablesLength h ≤ 34816
-unfolding tablesLength
-longest-tables h n k =
-    let a : h .n * h .n ≤ 1024 = mul-le-mul {n₁ = h .n} {m₁ = h .n} {n₂ = 32} {m₂ = 32} n n in
-    omega (arith, mul-le-mul {n₁ = h .k + 1} {m₁ = h .n * h .n} {n₂ = 33} {m₂ = 1024} (omega arith) a)
 
 room-held : (long : ℕ) (lent : List ℕ) → needRoom long lent ≡ Accepted → long ≤ length lent
 unfolding needRoom
@@ -70,10 +66,8 @@ module _ (s : List ℕ) where
     where
       fit : check s ≡ Accepted → tablesLength (headerOf s) ≤ length before
       fit c =
-          let A = checked-set s c .rules .limits in
-          let n : headerOf s .n ≤ 32 = rw (net-held s) at (A .nodes .1) in
-          let k : headerOf s .k ≤ 32 = rw (net-held s) at (A .topologies .0) in
-          omega (arith, longest-tables (headerOf s) n k)
+          let w : WithinLimits (headerOf s) = rw (net-held s) at (checked-set s c .rules .limits) in
+          omega (arith, longest-tables (headerOf s) w)
 
   -- room for the longest report is enough for every file
   pub report-verdict : (old : List ℕ) → length old ≡ 22875 → andThen (check s) (needRoom (length (reportText (setOf s))) old) ≡ check s

@@ -38,7 +38,7 @@ unfolding needCap
 cap-given cap l h = sym (refuse-ok _ 0 (sym (search numbers depth 14)))
 
 module _ (G : Set) (cap : ℕ) (R : MeetsRules G) where
-  fit-ok : needFit G cap ≡ Accepted → fits G cap ≡ true
+  pub fit-ok : needFit G cap ≡ Accepted → fits G cap ≡ true
   unfolding needFit
   fit-ok e = zero-exactly G cap R .0 (refuse-zero (buildNumber G cap) 0 e)
 
@@ -47,7 +47,7 @@ module _ (G : Set) (cap : ℕ) (R : MeetsRules G) where
   ok-fit e = sym (refuse-ok (buildNumber G cap) 0 (zero-exactly G cap R .1 e))
 
   -- the longest file has room for what is built
-  built-long : cap ≤ 32 → fits G cap ≡ true → fileLength (built G cap .net) ≤ 9192
+  pub built-long : cap ≤ 32 → fits G cap ≡ true → fileLength (built G cap .net) ≤ 9192
   built-long small ok =
       let A = built-accepted G cap R small ok in
       let a = longest-file (encode (built G cap)) (encode-accepted (built G cap) (A .rules)) in

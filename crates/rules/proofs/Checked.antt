@@ -17,7 +17,7 @@ use Rattle.rules.proofs.Sound.{topologies-sound, sound-topologies}
 
 -- ---- 13
 
-set-needed : (h : Network) → needSet h ≡ Accepted → 1 ≤ h .k
+pub set-needed : (h : Network) → needSet h ≡ Accepted → 1 ≤ h .k
 unfolding needSet
 set-needed h e = leb-true 1 (h .k) (need-ok (leb 1 (h .k)) 12 0 (refuse-zero (need (leb 1 (h .k)) 13 0) 0 e) .0)
 

@@ -39,4 +39,6 @@ pub mod ChangeKinds
 pub mod Lent
 pub mod Fits
 pub mod Answered
+pub mod Numbered
+pub mod Values
 pub mod Shown
