@@ -19,6 +19,7 @@ use Rattle.rules.specs.Judgement.{refuse, andThen, judge, needGraph, needCap, n
 use Rattle.rules.specs.Answers.{tell, lengthTells}
 use Rattle.rules.specs.Entries.{Promise, onAccept, builtFrom, buildEntry}
 use Rattle.rules.proofs.Choices.{need-yes, need-no, need-le, need-le-no, need-eq, need-eq-no, refuse-no, refuse-ok, refuse-zero, need-ok, then-ok, then-no, then-first, then-second, then-on}
+use Rattle.rules.proofs.Determined.{length-one}
 use Rattle.rules.proofs.Held.{net-held}
 use Rattle.checker.specs.Graph.{neighbourWords}
 use Rattle.checker.proofs.Same.{WordsOf}
@@ -210,3 +211,7 @@ none-placed n h = take-same n 32 0 h
 
 pub part-long : (n : ℕ) → n ≤ 32 → n ≡ length {A = ℕ} (take n (replicate 32 0))
 part-long n h = sym (ap length (take-same n 32 0 h) ∙ length-replicate n 0)
+
+-- two results that the promise allows coincide: the whole answer, and every byte of the file
+pub one-part : (v : Verdict) (S : Set) (before after after′ : List ℕ) (r r′ : LengthAnswer) → Gives v S before r after → Gives v S before r′ after′ → (r ≡ r′) × (after ≡ after′)
+one-part v S before after after′ r r′ p q = (length-one r r′ (p .answer ∙ sym (q .answer)), p .lent ∙ sym (q .lent))

@@ -205,3 +205,15 @@ highest-more homes v t h r et eh er = er ∙ rw (et, eh, add-one)
 
 pub highest-done : (homes : List ℕ) (v t : ℕ) → t ≡ highest homes v → v ≤ length homes → length homes ≤ v → t ≡ highest homes (length homes)
 highest-done homes v t e h g = let q : v ≡ length homes = omega arith in e ∙ ap (highest homes) q
+
+-- no node before the one that finds no home is without one
+not-fewer : (nb : List ℕ) (n cap r r′ : ℕ) (homes homes′ : List ℕ) → Placed nb n cap homes r → Placed nb n cap homes′ r′ → r < r′ → ⊥
+not-fewer nb n cap r r′ homes homes′ p q l = omega (arith, p .passed (omega (arith, q .within)), q .each r l)
+
+-- two results that the promise allows coincide: how many nodes are placed, and every home
+pub one-placing : (nb : List ℕ) (n cap r r′ : ℕ) (homes homes′ : List ℕ) → Placed nb n cap homes r → Placed nb n cap homes′ r′ → (r ≡ r′) × (homes ≡ homes′)
+one-placing nb n cap r r′ homes homes′ p q =
+    let a = not-fewer nb n cap r r′ homes homes′ p q in
+    let b = not-fewer nb n cap r′ r homes′ homes q p in
+    let e : r ≡ r′ = omega (arith, a, b) in
+    (e, p .homes-are ∙ ap (homesBy nb n cap) e ∙ sym (q .homes-are))

@@ -20,7 +20,8 @@ use Rattle.rules.specs.Report.{reportText}
 use Rattle.rules.specs.Answers.{accepted, refused, tell, lengthTells}
 use Rattle.rules.specs.Entries.{Promise, onAccept, reportEntry}
 use Rattle.rules.proofs.Rows.{laid-front, laid-more}
-use Rattle.capi.specs.Words.{wordOf, byLength, Answers, textEntry, Laid}
+use Rattle.report.proofs.Answers.{report-verdict}
+use Rattle.capi.specs.Words.{wordOf, byLength, Answers, Laid}
 
 -- ---- a copy
 
@@ -107,43 +108,51 @@ unfolding lengthTells
 given-answer (long.Length b) bytes e = cc
 given-answer (long.Refused n p) bytes e = let z : _≡_ {A = ℕ} 0 1 = cc in absurd (omega arith)
 
-module _ (s zeros made text after : List ℕ) (a r : LengthAnswer) (w : ℕ) (P : Promise reportEntry s zeros a made) (L : Laid a made text r after) (e : w ≡ wordOf byLength (lengthTells r)) where
+module _ (s zeros made text after : List ℕ) (a r : LengthAnswer) (w : ℕ) (room : 22875 ≡ length zeros) (P : Promise reportEntry s zeros a made) (L : Laid a made text r after) (e : w ≡ wordOf byLength (lengthTells r)) where
   whole : List ℕ
   whole = reportText (setOf s)
 
-  by-refusal : (number place : ℕ) → check s ≡ Refused number place → Answers textEntry byLength s text w after
-  unfolding textEntry reportEntry andThen tell onAccept wordOf lengthTells
+  told : lengthTells a ≡ tell (check s) (length whole ∷ [])
+  unfolding reportEntry whole
+  told = P .answer ∙ ap (λ (v : Verdict). tell v (length (reportText (setOf s)) ∷ [])) (report-verdict s zeros (sym room))
+
+  left : made ≡ onAccept (check s) (laid whole zeros) zeros
+  unfolding reportEntry whole
+  left = P .lent ∙ ap (λ (v : Verdict). onAccept v (laid (reportText (setOf s)) zeros) zeros) (report-verdict s zeros (sym room))
+
+  by-refusal : (number place : ℕ) → check s ≡ Refused number place → Answers reportEntry byLength s text w after
+  unfolding reportEntry andThen tell onAccept wordOf lengthTells
   by-refusal number place c =
-      let x = refused-answer a number place (P .answer ∙ rw c) in
+      let x = refused-answer a number place (told ∙ rw c) in
       let q = L .refused number place x in
       record { answer = e ∙ rw (q .0, x, c); lent = q .1 ∙ rw c }
 
   made-long : check s ≡ Accepted → length whole ≤ length made
-  unfolding reportEntry onAccept laid whole
+  unfolding onAccept laid
   made-long c =
-      let m : made ≡ reportText (setOf s) ++ drop (length (reportText (setOf s))) zeros = P .lent ∙ rw c in
-      omega (arith, ap length m, length-append (reportText (setOf s)) (drop (length (reportText (setOf s))) zeros))
+      let m : made ≡ whole ++ drop (length whole) zeros = left ∙ rw c in
+      omega (arith, ap length m, length-append whole (drop (length whole) zeros))
 
   front : check s ≡ Accepted → take (length whole) made ≡ whole
-  unfolding reportEntry onAccept whole
-  front c = ap (take (length (reportText (setOf s)))) (P .lent ∙ rw c) ∙ laid-front (reportText (setOf s)) zeros
+  unfolding onAccept
+  front c = ap (take (length whole)) (left ∙ rw c) ∙ laid-front whole zeros
 
-  by-room : check s ≡ Accepted → (t : Bool) → leb (length whole) (length text) ≡ t → Answers textEntry byLength s text w after
-  unfolding textEntry reportEntry andThen needRoom need refuse tell onAccept wordOf lengthTells whole
+  by-room : check s ≡ Accepted → (t : Bool) → leb (length whole) (length text) ≡ t → Answers reportEntry byLength s text w after
+  unfolding reportEntry andThen needRoom need refuse tell onAccept wordOf lengthTells whole
   by-room c true d =
-      let x = given-answer a (length (reportText (setOf s))) (P .answer ∙ rw c) in
+      let x = given-answer a (length (reportText (setOf s))) (told ∙ rw c) in
       let q = L .fits (length (reportText (setOf s))) x (leb-true (length (reportText (setOf s))) (length text) d) (made-long c) in
       record { answer = e ∙ rw (q .0, x, c, d); lent = q .1 ∙ ap (λ (l : List ℕ). laid l text) (front c) ∙ rw (c, d) }
   by-room c false d =
-      let x = given-answer a (length (reportText (setOf s))) (P .answer ∙ rw c) in
+      let x = given-answer a (length (reportText (setOf s))) (told ∙ rw c) in
       let q = L .short (length (reportText (setOf s))) x (leb-false (length (reportText (setOf s))) (length text) d) in
       record { answer = e ∙ rw (q .0, c, d); lent = q .1 ∙ rw (c, d) }
 
-  by-check : (v : Verdict) → check s ≡ v → Answers textEntry byLength s text w after
+  by-check : (v : Verdict) → check s ≡ v → Answers reportEntry byLength s text w after
   by-check Accepted c = by-room c (leb (length whole) (length text)) refl
   by-check (Refused number place) c = by-refusal number place c
 
-pub report-word : (s zeros made text after : List ℕ) (a r : LengthAnswer) (w : ℕ) → Promise reportEntry s zeros a made → Laid a made text r after → w ≡ wordOf byLength (lengthTells r) → Answers textEntry byLength s text w after
-report-word s zeros made text after a r w P L e = by-check s zeros made text after a r w P L e (check s) refl
+pub report-word : (s zeros made text after : List ℕ) (a r : LengthAnswer) (w : ℕ) → 22875 ≡ length zeros → Promise reportEntry s zeros a made → Laid a made text r after → w ≡ wordOf byLength (lengthTells r) → Answers reportEntry byLength s text w after
+report-word s zeros made text after a r w room P L e = by-check s zeros made text after a r w room P L e (check s) refl
 
 pub ruleset texts = (copy-none, copy-more, copy-done, copy-from, copy-to, laid-refused, laid-short, laid-none, laid-done, report-word)

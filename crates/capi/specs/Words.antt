@@ -10,10 +10,7 @@ use Rattle.rules.specs.declared.Failure.the-variants.{Nothing, Link, Node}
 use Rattle.rules.specs.declared.LengthAnswer.{LengthAnswer}
 use Rattle.rules.specs.declared.LengthAnswer.the-variants as long
 use Rattle.rules.specs.Basics.{if_then_else_, laid}
-use Rattle.rules.specs.File.{setOf}
-use Rattle.rules.specs.Judgement.{andThen, check, needRoom}
-use Rattle.rules.specs.Report.{reportText}
-use Rattle.rules.specs.Answers.{Told, accepted, refused, tell, lengthTells}
+use Rattle.rules.specs.Answers.{Told, accepted, refused, tell}
 use Rattle.rules.specs.Entries.{Entry, onAccept}
 
 -- bit 63 is set, bits 32 to 39 hold the number, bits 0 to 31 the place
@@ -55,16 +52,6 @@ packetAt u t i = record { place = u; destination = t; topology = i }
 pub record Answers {Input Lent Answer : Type 0} (E : Entry Input Lent Answer) (ranges : List ℕ) (i : Input) (before : Lent) (word : ℕ) (after : Lent) : Type 0 where
   pub answer : word ≡ wordOf ranges (tell (E .verdict i before) (E .gives i before))
   pub lent : after ≡ onAccept (E .verdict i before) (E .leaves i before) before
-
--- the report into any room: 14 where it is under the text's length
-unfoldable pub textEntry : Entry (List ℕ) (List ℕ) LengthAnswer
-textEntry =
-    record {
-      verdict = λ s d. andThen (check s) (needRoom (length (reportText (setOf s))) d);
-      tells = lengthTells;
-      gives = λ s d. length (reportText (setOf s)) ∷ [];
-      leaves = λ s d. laid (reportText (setOf s)) d;
-    }
 
 -- an answer of so many bytes of `made`, laid into the lent room; 14 where that is too short
 pub record Laid (answer : LengthAnswer) (made text : List ℕ) (r : LengthAnswer) (after : List ℕ) : Type 0 where

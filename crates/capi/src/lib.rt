@@ -21,8 +21,8 @@ ghost use lib.ListN.{length, take};
 ghost use Rattle.rules.specs.Basics.{laid};
 ghost use Rattle.rules.specs.Report.{letter};
 ghost use Rattle.rules.specs.Answers.{verdictTells, readTells, lengthTells, outcomeValue, stepValues, stepTells, journeyValues, runTells};
-ghost use Rattle.rules.specs.Entries.{lists, checkEntry, buildEntry, tablesEntry, stepEntry, runEntry, readEntry, writeEntry};
-ghost use Rattle.capi.specs.Words.{refusedWord, pack, wordOf, failureOf, Answers, byLength, byRead, byStep, byRun, packetAt, textEntry, Laid};
+ghost use Rattle.rules.specs.Entries.{lists, checkEntry, buildEntry, tablesEntry, stepEntry, runEntry, readEntry, writeEntry, reportEntry};
+ghost use Rattle.capi.specs.Words.{refusedWord, pack, wordOf, failureOf, Answers, byLength, byRead, byStep, byRun, packetAt, Laid};
 
 // ---- answers as words
 
@@ -308,7 +308,7 @@ fn lay_text(
 
 #[no_mangle]
 pub extern "C" fn burnishpeg_report(file: &[u8], text: &mut [u8]) -> u64
-    ensures { λ r. ⌜ Answers textEntry byLength (now (file .entry)) (now (text .entry)) r (now (text .exit)) ⌝ }
+    ensures { λ r. ⌜ Answers reportEntry byLength (now (file .entry)) (now (text .entry)) r (now (text .exit)) ⌝ }
 {
     let mut made = text_room();
     let answer = report(file, &mut made);

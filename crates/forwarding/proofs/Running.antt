@@ -132,4 +132,10 @@ module _ (s : List ℕ) (u t : ℕ) (f : Failure) (tables nodes : List ℕ) wher
       let z : runEntry .verdict (runInput s u t f) (runLent tables nodes) ≡ Refused number place = verdict-same ∙ sym d ∙ e in
       record { answer = rw z; lent = rw z }
 
+-- two results that the promise allows coincide: the whole answer, and every byte of tables and trail
+pub one-journey : (s : List ℕ) (start : Packet) (f : Failure) (before after after′ : RunLent) (r r′ : Journey)
+    → Ran s start f before r after → Ran s start f before r′ after′ → (r ≡ r′) × (after ≡ after′)
+one-journey s start f before after after′ r r′ p q =
+    (p .answer ∙ sym (q .answer), ap₂ runLent (p .tables ∙ sym (q .tables)) (p .trail ∙ sym (q .trail)))
+
 pub ruleset running = (nodes-low, nodes-high, prefix-long, tables-fit, tables-part, run-judged, is-set, trail-fits, run-made, run-verdict-is, run-ready, run-ended, run-refused)

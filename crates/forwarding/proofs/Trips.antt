@@ -192,4 +192,9 @@ visited-out t at v l = record { is = sym (set-out t at v l); long = refl }
 pub fewer-left : (count more most : ℕ) → more ≡ count + 1 → count < most → most - more < most - count
 fewer-left count more most e l = omega arith
 
+-- two results that the promise allows coincide: the whole answer, and every byte of the trail
+pub one-run : (s tables : List ℕ) (f : Failure) (start : Packet) (most : ℕ) (old new new′ : List ℕ) (r r′ : Journey)
+    → RunsAs s tables f start most old r new → RunsAs s tables f start most old r′ new′ → (r ≡ r′) × (new ≡ new′)
+one-run s tables f start most old new new′ r r′ p q = (p .answer ∙ sym (q .answer), p .written ∙ sym (q .written))
+
 pub ruleset travelling = (kind-first, kind-t, kind-s, kind-d, travel-none, travel-more, travel-delivered, travel-dropped, travel-under-way, begun, runs-whole, fewer-left, visited-in, visited-out)

@@ -1,12 +1,12 @@
 -- From the answer of the entry `tables` to that of `report`: the room for the longest tables is always enough, so both refuse the same files.
 use mathlib.Core.Path.{_≡_, refl, sym, ap, _∙_}
 use mathlib.Core.List.{List, [], _∷_, _++_}
-use Prim.Native.Nat.{ℕ, _+_, _*_, _≤_}
-use native.Mathlib.Nat.{mul-le-mul, zero-add}
+use Prim.Native.Nat.{ℕ, _≤_}
+use native.Mathlib.Nat.{zero-add}
 use native.Mathlib.Omega.{arith}
 use lib.Dec.{leb}
 use lib.ListN.{length}
-use borrow.Author.Tests.{le-leb}
+use borrow.Author.Tests.{leb-true}
 use Rattle.rules.specs.declared.Network.{Network}
 use Rattle.rules.specs.declared.Verdict.{Verdict}
 use Rattle.rules.specs.declared.Verdict.the-variants.{Accepted, Refused}
@@ -20,10 +20,14 @@ use Rattle.rules.specs.Judgement.{andThen, needRoom, check}
 use Rattle.rules.specs.Report.{decimal, newline, reportText, refusalLine, printed}
 use Rattle.rules.specs.Answers.{accepted, refused, tell, lengthTells}
 use Rattle.rules.specs.Entries.{onAccept, Promise, tablesEntry, reportEntry}
-use Rattle.rules.proofs.Choices.{need-yes, refuse-ok, then-ok, then-no, then-first}
+use Rattle.rules.specs.Demands.{WithinLimits}
+use Rattle.rules.proofs.Choices.{need-ok, refuse-zero, then-ok, then-no, then-first, then-second}
+use Rattle.rules.proofs.Rows.{length-laid}
+use Rattle.rules.proofs.Same.{room-ok}
 use Rattle.rules.proofs.Held.{net-held}
 use Rattle.rules.proofs.Checked.{checked-set}
 use Rattle.rules.proofs.Fits.{report-longest}
+use Rattle.rules.proofs.Values.{longest-tables}
 use Rattle.report.specs.Text.{Wrote}
 use Rattle.report.specs.Lines.{Ready}
 use Rattle.report.specs.Answer.{Made, Says, it, line, Printed}
@@ -41,24 +45,33 @@ unfolding tell
 turned-down Accepted values number place e = let z : _≡_ {A = ℕ} 0 1 = cc in absurd (omega arith)
 turned-down (Refused x y) values number place e = cc
 
--- ---- room for the longest tables
+-- ---- room for the longest tables, and for the longest report
 
-longest-tables : (h : Network) → h .n ≤ 32 → h .k ≤ 32 → tablesLength h ≤ 34816
-unfolding tablesLength
-longest-tables h n k =
-    let a : h .n * h .n ≤ 1024 = mul-le-mul {n₁ = h .n} {m₁ = h .n} {n₂ = 32} {m₂ = 32} n n in
-    omega (arith, mul-le-mul {n₁ = h .k + 1} {m₁ = h .n * h .n} {n₂ = 33} {m₂ = 1024} (omega arith) a)
+room-held : (long : ℕ) (lent : List ℕ) → needRoom long lent ≡ Accepted → long ≤ length lent
+unfolding needRoom
+room-held long lent e = leb-true long (length lent) (need-ok (leb long (length lent)) 13 0 (refuse-zero (need (leb long (length lent)) 14 0) 0 e) .0)
 
 module _ (s : List ℕ) where
-  enough : (before : List ℕ) → length before ≡ 34816 → check s ≡ Accepted → needRoom (tablesLength (headerOf s)) before ≡ Accepted
-  unfolding needRoom
-  enough before e c =
-      let A = checked-set s c .rules .limits in
-      let n : headerOf s .n ≤ 32 = rw (net-held s) at (A .nodes .1) in
-      let k : headerOf s .k ≤ 32 = rw (net-held s) at (A .topologies .0) in
-      let l : tablesLength (headerOf s) ≤ length before = omega (arith, longest-tables (headerOf s) n k) in
-      sym (refuse-ok (need (leb (tablesLength (headerOf s)) (length before)) 14 0) 0
-      (sym (need-yes (leb (tablesLength (headerOf s)) (length before)) 14 0 0 (le-leb (tablesLength (headerOf s)) (length before) l) refl)))
+  -- room that is enough for every accepted file leaves the verdict to the check
+  only-check : (long : ℕ) (lent : List ℕ) → (check s ≡ Accepted → long ≤ length lent) → andThen (check s) (needRoom long lent) ≡ check s
+  only-check long lent l = go (check s) refl
+    where
+      go : (v : Verdict) → check s ≡ v → andThen (check s) (needRoom long lent) ≡ check s
+      go Accepted c = then-ok (check s) (needRoom long lent) c ∙ room-ok long lent (l c) ∙ sym c
+      go (Refused number place) c = then-no (check s) (needRoom long lent) number place c ∙ sym c
+
+  -- room for the longest tables is enough for every file
+  tables-verdict : (before : List ℕ) → length before ≡ 34816 → andThen (check s) (needRoom (tablesLength (headerOf s)) before) ≡ check s
+  tables-verdict before e = only-check (tablesLength (headerOf s)) before fit
+    where
+      fit : check s ≡ Accepted → tablesLength (headerOf s) ≤ length before
+      fit c =
+          let w : WithinLimits (headerOf s) = rw (net-held s) at (checked-set s c .rules .limits) in
+          omega (arith, longest-tables (headerOf s) w)
+
+  -- room for the longest report is enough for every file
+  pub report-verdict : (old : List ℕ) → length old ≡ 22875 → andThen (check s) (needRoom (length (reportText (setOf s))) old) ≡ check s
+  report-verdict old e = only-check (length (reportText (setOf s))) old (λ c. omega (arith, report-longest (setOf s) (checked-set s c)))
 
   -- ---- an accepted file
 
@@ -81,28 +94,21 @@ module _ (s : List ℕ) where
       → Promise reportEntry s old (long.Length r) new
   unfolding reportEntry lengthTells tell onAccept
   reported answer tables old new bytes r M d w e =
-      let R = made-ready answer tables bytes (headerOf s) M d refl in
-      let A = checked-set s (R .accepted) in
+      let c = made-ready answer tables bytes (headerOf s) M d refl .accepted in
+      let v : andThen (check s) (needRoom (length (reportText (setOf s))) old) ≡ Accepted = report-verdict old e ∙ c in
       record {
-        answer = rw (R .accepted) (ap (λ (x : ℕ). accepted (x ∷ [])) (w .on ∙ z));
-        lent = rw (R .accepted) (wrote-laid old new (reportText (setOf s)) 152657 r w (omega (arith, report-longest (setOf s) A)));
+        answer = rw v (ap (λ (x : ℕ). accepted (x ∷ [])) (w .on ∙ zero-add (length (reportText (setOf s)))));
+        lent = rw v (wrote-laid old new (reportText (setOf s)) 152657 r w (omega (arith, report-longest (setOf s) (checked-set s c))));
       }
-    where
-      z : 0 + length (reportText (setOf s)) ≡ length (reportText (setOf s))
-      z = omega arith
 
   -- ---- a refused file
 
-  pub made-refused : (answer : LengthAnswer) (tables old : List ℕ) (number place : ℕ) → Made s answer tables → answer ≡ long.Refused number place → Promise reportEntry s old (long.Refused number place) old
+  pub made-refused : (answer : LengthAnswer) (tables old : List ℕ) (number place : ℕ) → Made s answer tables → answer ≡ long.Refused number place → length old ≡ 22875 → Promise reportEntry s old (long.Refused number place) old
   unfolding tablesEntry reportEntry lengthTells tell onAccept
-  made-refused answer tables old number place M e =
-      let v : andThen (check s) (needRoom (tablesLength (headerOf s)) (M .before)) ≡ Refused number place = turned-down _ (tablesLength (headerOf s) ∷ []) number place (sym (ap lengthTells e) ∙ M .kept .answer) in
-      let c : check s ≡ Refused number place = go (check s) refl v in
-      record { answer = rw c; lent = rw c }
-    where
-      go : (x : Verdict) → check s ≡ x → andThen (check s) (needRoom (tablesLength (headerOf s)) (M .before)) ≡ Refused number place → check s ≡ Refused number place
-      go Accepted d v = let z : _≡_ {A = ℕ} 0 1 = cc (then-ok (check s) (needRoom (tablesLength (headerOf s)) (M .before)) d, enough (M .before) (M .long) d) in absurd (omega arith)
-      go (Refused x y) d v = d ∙ sym (then-no (check s) (needRoom (tablesLength (headerOf s)) (M .before)) x y d) ∙ v
+  made-refused answer tables old number place M e l =
+      let t : andThen (check s) (needRoom (tablesLength (headerOf s)) (M .before)) ≡ Refused number place = turned-down _ (tablesLength (headerOf s) ∷ []) number place (sym (ap lengthTells e) ∙ M .kept .answer) in
+      let v : andThen (check s) (needRoom (length (reportText (setOf s))) old) ≡ Refused number place = report-verdict old l ∙ sym (tables-verdict (M .before) (M .long)) ∙ t in
+      record { answer = rw v; lent = rw v }
 
 -- ---- what the program prints
 
@@ -114,20 +120,31 @@ refusal-of old o₁ o₂ new p q r number place a b c =
     (wrote-then o₁ o₂ new p q r 36 1 37 ((32 ∷ 97 ∷ 116 ∷ 32 ∷ []) ++ decimal place) newline b c (omega arith)) (omega arith)
 
 module _ (s : List ℕ) where
-  accepted-of : (old new : List ℕ) (answer : LengthAnswer) (bytes : ℕ) → Promise reportEntry s old answer new → answer ≡ long.Length bytes → check s ≡ Accepted
-  unfolding reportEntry lengthTells
-  accepted-of old new answer bytes P e = answered (check s) (length (reportText (setOf s)) ∷ []) bytes (sym (ap lengthTells e) ∙ P .answer)
+  -- a report keeps the length of its room
+  same-room : (old mid : List ℕ) (answer : LengthAnswer) → Promise reportEntry s old answer mid → length mid ≡ length old
+  unfolding reportEntry onAccept
+  same-room old mid answer P = go (andThen (check s) (needRoom (length (reportText (setOf s))) old)) refl (P .lent)
+    where
+      go : (v : Verdict) → andThen (check s) (needRoom (length (reportText (setOf s))) old) ≡ v → mid ≡ onAccept v (laid (reportText (setOf s)) old) old → length mid ≡ length old
+      go Accepted e m =
+          let r = room-held (length (reportText (setOf s))) old (then-second (check s) (needRoom (length (reportText (setOf s))) old) e) in
+          ap length m ∙ length-laid (reportText (setOf s)) old r
+      go (Refused number place) e m = ap length m
 
   pub printed-of : (old mid new : List ℕ) (answer : LengthAnswer) (r : ℕ) → Promise reportEntry s old answer mid → Says answer mid r new → length mid ≡ 22875 → Printed s old r new
   unfolding reportEntry lengthTells tell onAccept printed
   printed-of old mid new answer r P (it e m) l =
-      let c = accepted-of old mid answer r P e in
-      let a : accepted (r ∷ []) ≡ accepted (length (reportText (setOf s)) ∷ []) = sym (ap lengthTells e) ∙ P .answer ∙ ap (λ (v : Verdict). tell v (length (reportText (setOf s)) ∷ [])) c in
+      let o = sym (same-room old mid answer P) ∙ l in
+      let v : andThen (check s) (needRoom (length (reportText (setOf s))) old) ≡ Accepted = answered _ (length (reportText (setOf s)) ∷ []) r (sym (ap lengthTells e) ∙ P .answer) in
+      let c : check s ≡ Accepted = sym (report-verdict s old o) ∙ v in
+      let a : accepted (r ∷ []) ≡ accepted (length (reportText (setOf s)) ∷ []) = sym (ap lengthTells e) ∙ P .answer ∙ ap (λ (x : Verdict). tell x (length (reportText (setOf s)) ∷ [])) v in
       let z : r ≡ length (reportText (setOf s)) = cc in
-      record { is = m ∙ P .lent ∙ rw c; long = z ∙ rw c; fits = omega (arith, ap length m, report-longest (setOf s) (checked-set s c)) }
+      record { is = m ∙ P .lent ∙ rw (v, c); long = z ∙ rw c; fits = omega (arith, ap length m, report-longest (setOf s) (checked-set s c)) }
   printed-of old mid new answer r P (line number place e w) l =
-      let c : check s ≡ Refused number place = turned-down (check s) (length (reportText (setOf s)) ∷ []) number place (sym (ap lengthTells e) ∙ P .answer) in
-      let m : mid ≡ old = P .lent ∙ ap (λ (v : Verdict). onAccept v (laid (reportText (setOf s)) old) old) c in
+      let o = sym (same-room old mid answer P) ∙ l in
+      let v : andThen (check s) (needRoom (length (reportText (setOf s))) old) ≡ Refused number place = turned-down _ (length (reportText (setOf s)) ∷ []) number place (sym (ap lengthTells e) ∙ P .answer) in
+      let c : check s ≡ Refused number place = sym (report-verdict s old o) ∙ v in
+      let m : mid ≡ old = P .lent ∙ ap (λ (x : Verdict). onAccept x (laid (reportText (setOf s)) old) old) v in
       let z : r ≡ length (refusalLine number place) = w .on ∙ zero-add (length (refusalLine number place)) in
       record {
         is = wrote-laid mid new (refusalLine number place) 73 r w (omega (arith, w .few)) ∙ ap (laid (refusalLine number place)) m ∙ rw c;

@@ -106,4 +106,8 @@ pub field-of : (old mid new : List ℕ) (at p r x : ℕ) → Wrote old at (decim
 unfolding field
 field-of old mid new at p r x v w = wrote-then old mid new at p r 20 1 21 (decimal x) space v w (omega arith)
 
+-- two results that the promise allows coincide: the place after the bytes, and every byte of the text
+pub one-writing : (old bytes new new′ : List ℕ) (at most r r′ : ℕ) → Wrote old at bytes most r new → Wrote old at bytes most r′ new′ → (r ≡ r′) × (new ≡ new′)
+one-writing old bytes new new′ at most r r′ v w = (v .on ∙ sym (w .on), v .is ∙ sym (w .is))
+
 pub ruleset texts = (wrote-in, wrote-out, copied-none, copied-more, copied-all, one-digit, last-digit, more-digits, number-of, labelled-of, field-of, letter-none, letter-t, letter-s, letter-d)

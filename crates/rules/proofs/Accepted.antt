@@ -148,7 +148,7 @@ accepted-exactly s small = (
 pub one-set : OneSet
 one-set S S′ ok ok′ e = sym (set-back S ok) ∙ ap setOf e ∙ set-back S′ ok′
 
-length-bound : (h : Network) → WithinLimits h → fileLength h ≤ 9192
+pub length-bound : (h : Network) → WithinLimits h → fileLength h ≤ 9192
 unfolding fileLength rowPlace homePlace linkPlace rowLength rowWeights
 length-bound h w =
     let n = w .nodes in

@@ -41,14 +41,14 @@ fit-given G cap R e = sym (refuse-ok (buildNumber G cap) 0 (zero-exactly G cap R
 -- ---- what it accepts
 
 -- what the verdict asks of the graph that the bytes hold
-record Asked (i : BuildInput) (lent : List ℕ) : Type 0 where
-  file : judge (i .file) ≡ Accepted
-  graph : headerOf (i .file) .k ≡ 0
-  cap : (1 ≤ i .cap) × (i .cap ≤ 32)
-  fit : fits (setOf (i .file)) (i .cap) ≡ true
-  room : fileLength (built (setOf (i .file)) (i .cap) .net) ≤ length lent
+pub record Asked (i : BuildInput) (lent : List ℕ) : Type 0 where
+  pub file : judge (i .file) ≡ Accepted
+  pub graph : headerOf (i .file) .k ≡ 0
+  pub cap : (1 ≤ i .cap) × (i .cap ≤ 32)
+  pub fit : fits (setOf (i .file)) (i .cap) ≡ true
+  pub room : fileLength (built (setOf (i .file)) (i .cap) .net) ≤ length lent
 
-asked : (i : BuildInput) (lent : List ℕ) → buildEntry .verdict i lent ≡ Accepted → Asked i lent
+pub asked : (i : BuildInput) (lent : List ℕ) → buildEntry .verdict i lent ≡ Accepted → Asked i lent
 unfolding buildEntry builtFrom
 asked i lent e =
     let graph = then-second _ _ e in

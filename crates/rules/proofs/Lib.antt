@@ -50,4 +50,6 @@ pub mod Fits
 pub mod Answered
 pub mod Reported
 pub mod Kept
+pub mod Numbered
+pub mod Values
 pub mod Shown

@@ -42,8 +42,10 @@ use Rattle.rules.specs.Entries.{Entry, Promise, NothingLent, Lists, read
 -- has to check first."
 
 -- 01's refusals are 1 to 15, and no place lies past the longest file
-abbrev pub InTable : ℕ → ℕ → Type 0
-InTable number place = (1 ≤ number) × (number ≤ 15) × (place < longest .file)
+pub record InTable (number place : ℕ) : Type 0 where
+  pub low : 1 ≤ number
+  pub high : number ≤ 15
+  pub inside : place < longest .file
 
 -- so is what a verdict refuses by
 abbrev pub Numbered : Verdict → Type 0
