@@ -6,7 +6,6 @@ use mathlib.Core.List.{List, [], _∷_}
 use Prim.Native.Nat.{ℕ, suc, _+_, _*_, _/_, _%_, _≤_, _<_}
 use native.Mathlib.Nat.{zero-add, mul-suc, mul-le-mul-left, mod-eq-of-lt, div-eq-of-lt, add-mul-div-left, add-mul-mod-self-left}
 use native.Mathlib.Omega.{arith}
-use lib.Dec.{leb}
 use borrow.Author.Tests.{le-leb, lt-leb}
 use Rattle.rules.specs.declared.Verdict.{Verdict}
 use Rattle.rules.specs.declared.Verdict.the-variants.{Accepted, Refused}
@@ -15,7 +14,7 @@ use Rattle.rules.specs.Answers.{accepted, refused, tell}
 use Rattle.rules.specs.Entries.{Entry, checkEntry, buildEntry, tablesEntry, stepEntry, runEntry, readEntry, writeEntry, reportEntry}
 use Rattle.rules.proofs.Numbered.{Numbered, longest-is, read-numbered, write-numbered, check-numbered, build-numbered, tables-numbered, step-numbered, run-numbered, report-numbered}
 use Rattle.rules.proofs.Values.{Below, read-below, write-below, check-below, build-below, tables-below, step-below, run-below, report-below}
-use Rattle.capi.specs.Words.{refusedWord, pack, wordOf, byLength, byRead, byStep, byRun, refusing, numberIn, placeIn, unpack, toldBy, Answers, ReadFromWord, EveryWord}
+use Rattle.capi.specs.Words.{refusedWord, pack, wordOf, byLength, byRead, byStep, byRun, refusing, numberIn, placeIn, unpack, toldBy, ReadFromWord, EveryWord}
 
 -- ---- values
 
