@@ -3,8 +3,9 @@
  * Every function takes any bytes and any numbers, and keeps nothing. A pointer with a length of 0 may be anything but null.
  * What is lent as `const` is read only. Buffers that one call is given must not overlap, except that two `const` ones may.
  *
- * The answer is one 64-bit number. Refused: bit 63 is set, bits 32 to 39 hold the refusal's number and bits 0 to 31 its place,
- * as document 01 numbers them, all other bits are 0, and every lent byte is as it came. Accepted: bit 63 is clear and the rest is the value below.
+ * The answer is one 64-bit number. Refused: bit 63 is set, bits 32 to 39 hold the refusal's number, 1 to 15, and bits 0 to 31 its
+ * place, below BURNISHPEG_LONGEST_FILE, as document 01 numbers them; all other bits are 0, and every lent byte is as it came. Accepted:
+ * bit 63 is clear and the rest is the value below.
  */
 #ifndef BURNISHPEG_H
 #define BURNISHPEG_H

@@ -1,7 +1,7 @@
 -- Answers as words.
 use mathlib.Core.Path.{_≡_, ap, subst, _∙_}
 use mathlib.Core.List.{List, [], _∷_}
-use Prim.Native.Nat.{ℕ, _+_, _*_, _%_, _≤_, _<_}
+use Prim.Native.Nat.{ℕ, _+_, _*_, _≤_, _<_}
 use native.Mathlib.Omega.{arith}
 use borrow.Author.Tests.{eq-eqb, ne-eqb, lt-ltb, le-ltb}
 use Rattle.rules.specs.declared.Network.{Network}
@@ -32,10 +32,6 @@ use Rattle.rules.proofs.ChangeKinds.{letter-none, letter-t, letter-s, letter-d}
 use Rattle.capi.specs.Words.{refusedWord, pack, wordOf, byLength, byRead, byStep, byRun, failureOf, Answers}
 
 -- ---- words
-
-pub refused-is : (number place low : ℕ) → low ≡ place % 4294967296 → 9223372036854775808 + number * 4294967296 + low ≡ refusedWord number place
-unfolding refusedWord
-refused-is number place low e = rw e
 
 pub verdict-accepted : (v : Verdict) → v ≡ Accepted → 0 ≡ wordOf [] (verdictTells v)
 unfolding wordOf verdictTells pack
@@ -127,21 +123,21 @@ pub down-nothing : (kind failed : ℕ) → kind ≡ 0 → Nothing ≡ failureOf 
 unfolding failureOf if_then_else_
 down-nothing kind failed e = rw (eq-eqb kind 0 e)
 
-pub down-link : (kind failed : ℕ) → (kind ≡ 0 → ⊥) → kind ≡ 1 → Link failed ≡ failureOf kind failed
+pub down-link : (kind failed : ℕ) → kind ≡ 1 → Link failed ≡ failureOf kind failed
 unfolding failureOf if_then_else_
-down-link kind failed a e = rw (ne-eqb kind 0 a, eq-eqb kind 1 e)
+down-link kind failed e = rw (ne-eqb kind 0 (λ z. omega arith), eq-eqb kind 1 e)
 
 pub down-unknown : (kind failed : ℕ) → (kind ≡ 0 → ⊥) → (kind ≡ 1 → ⊥) → (kind ≡ 2 → ⊥) → Link 65535 ≡ failureOf kind failed
 unfolding failureOf if_then_else_
 down-unknown kind failed a b c = rw (ne-eqb kind 0 a, ne-eqb kind 1 b, ne-eqb kind 2 c)
 
-pub down-node : (kind failed : ℕ) → (kind ≡ 0 → ⊥) → (kind ≡ 1 → ⊥) → kind ≡ 2 → failed < 256 → Node failed ≡ failureOf kind failed
+pub down-node : (kind failed : ℕ) → kind ≡ 2 → failed < 256 → Node failed ≡ failureOf kind failed
 unfolding failureOf if_then_else_
-down-node kind failed a b e l = rw (ne-eqb kind 0 a, ne-eqb kind 1 b, eq-eqb kind 2 e, lt-ltb failed 256 l)
+down-node kind failed e l = rw (ne-eqb kind 0 (λ z. omega arith), ne-eqb kind 1 (λ z. omega arith), eq-eqb kind 2 e, lt-ltb failed 256 l)
 
-pub down-no-node : (kind failed : ℕ) → (kind ≡ 0 → ⊥) → (kind ≡ 1 → ⊥) → kind ≡ 2 → 256 ≤ failed → Link 65535 ≡ failureOf kind failed
+pub down-no-node : (kind failed : ℕ) → kind ≡ 2 → 256 ≤ failed → Link 65535 ≡ failureOf kind failed
 unfolding failureOf if_then_else_
-down-no-node kind failed a b e l = rw (ne-eqb kind 0 a, ne-eqb kind 1 b, eq-eqb kind 2 e, le-ltb failed 256 l)
+down-no-node kind failed e l = rw (ne-eqb kind 0 (λ z. omega arith), ne-eqb kind 1 (λ z. omega arith), eq-eqb kind 2 e, le-ltb failed 256 l)
 
 -- ---- an entry's promise, as a word
 
@@ -186,6 +182,6 @@ pub ran-word : (s : List ℕ) (u t : ℕ) (f g : Failure) (before after : RunLen
     → Answers runEntry byRun (record { file = s; source = u; destination = t; failure = g }) before w after
 ran-word s u t f g before after r w d P e = subst (λ (x : Failure). Answers runEntry byRun (record { file = s; source = u; destination = t; failure = x }) before w after) d (run-word (record { file = s; source = u; destination = t; failure = f }) before after r w P e)
 
-pub ruleset words = (refused-is, verdict-accepted, verdict-refused, length-given, length-refused, header-is, read-given, read-refused, letter-none, letter-t, letter-s, letter-d, outcome-under-way, outcome-delivered, outcome-dropped, packet-is, stands-is, step-delivered, step-moved, step-dropped, step-taken, step-refused, journey-is, run-ended, run-refused, down-nothing, down-link, down-unknown, down-node, down-no-node)
+pub ruleset words = (verdict-accepted, verdict-refused, length-given, length-refused, header-is, read-given, read-refused, letter-none, letter-t, letter-s, letter-d, outcome-under-way, outcome-delivered, outcome-dropped, packet-is, stands-is, step-delivered, step-moved, step-dropped, step-taken, step-refused, journey-is, run-ended, run-refused, down-nothing, down-link, down-unknown, down-node, down-no-node)
 
 pub ruleset entries = (check-word, build-word, tables-word, written-word, read-word, stepped-word, ran-word)

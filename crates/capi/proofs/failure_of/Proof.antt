@@ -1,5 +1,5 @@
 use Rattle.capi.proofs.Laws.{words}
-use borrow.Author.Needs.{needs}
+use native.Mathlib.Omega.{arith}
 use Rattle.capi.proofs.failure_of.Statement.{statement}
 use Rattle.capi.proofs.failure_of.Tie as tie
 
@@ -13,7 +13,7 @@ returns-3 : tie.Need-returns-3
 returns-3 c = search words
 
 cast-t4 : tie.Need-cast-t4
-cast-t4 c = search needs
+cast-t4 c = omega arith
 
 returns-4 : tie.Need-returns-4
 returns-4 c = search words

@@ -1,5 +1,6 @@
-use Rattle.capi.proofs.Laws.{words}
+use native.Mathlib.Omega.{arith}
 use borrow.Author.Needs.{needs}
+use Rattle.capi.specs.Words.{refusedWord}
 use Rattle.capi.proofs.refused_word.Statement.{statement}
 use Rattle.capi.proofs.refused_word.Tie as tie
 
@@ -13,7 +14,8 @@ add-result-2 : tie.Need-add-result-2
 add-result-2 c = search needs
 
 returns : tie.Need-returns
-returns c = search words
+unfolding refusedWord
+returns c = omega arith
 
 pub refused-word-spec : {M : Type 1} → statement M
 refused-word-spec = tie.close (tie.spec mul-result add-result add-result-2 returns)
