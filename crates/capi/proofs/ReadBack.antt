@@ -12,7 +12,8 @@ use Rattle.rules.specs.declared.Verdict.the-variants.{Accepted, Refused}
 use Rattle.rules.specs.Basics.{if_then_else_}
 use Rattle.rules.specs.Answers.{accepted, refused, tell}
 use Rattle.rules.specs.Entries.{Entry, checkEntry, buildEntry, tablesEntry, stepEntry, runEntry, readEntry, writeEntry, reportEntry}
-use Rattle.rules.proofs.Numbered.{Numbered, longest-is, read-numbered, write-numbered, check-numbered, build-numbered, tables-numbered, step-numbered, run-numbered, report-numbered}
+use Rattle.rules.specs.Demands.{Numbered}
+use Rattle.rules.proofs.Numbered.{longest-is, read-numbered, write-numbered, check-numbered, build-numbered, tables-numbered, step-numbered, run-numbered, report-numbered}
 use Rattle.rules.proofs.Values.{Below, read-below, write-below, check-below, build-below, tables-below, step-below, run-below, report-below}
 use Rattle.capi.specs.Words.{refusedWord, pack, wordOf, byLength, byRead, byStep, byRun, refusing, numberIn, placeIn, unpack, toldBy, ReadFromWord, EveryWord}
 

@@ -4,15 +4,13 @@ use mathlib.Core.List.{List, [], _∷_, _++_}
 use Prim.Native.Nat.{ℕ, _≤_}
 use native.Mathlib.Nat.{zero-add}
 use native.Mathlib.Omega.{arith}
-use lib.Dec.{leb}
 use lib.ListN.{length}
-use borrow.Author.Tests.{leb-true}
 use Rattle.rules.specs.declared.Network.{Network}
 use Rattle.rules.specs.declared.Verdict.{Verdict}
 use Rattle.rules.specs.declared.Verdict.the-variants.{Accepted, Refused}
 use Rattle.rules.specs.declared.LengthAnswer.{LengthAnswer}
 use Rattle.rules.specs.declared.LengthAnswer.the-variants as long
-use Rattle.rules.specs.Basics.{need, laid}
+use Rattle.rules.specs.Basics.{laid}
 use Rattle.rules.specs.Limits.{tablesLength}
 use Rattle.rules.specs.File.{headerOf, setOf}
 use Rattle.rules.specs.Distance.{tableBytes}
@@ -21,9 +19,11 @@ use Rattle.rules.specs.Report.{decimal, newline, reportText, refusalLine, print
 use Rattle.rules.specs.Answers.{accepted, refused, tell, lengthTells}
 use Rattle.rules.specs.Entries.{onAccept, Promise, tablesEntry, reportEntry}
 use Rattle.rules.specs.Demands.{WithinLimits}
-use Rattle.rules.proofs.Choices.{need-ok, refuse-zero, then-ok, then-no, then-first, then-second}
+use Rattle.rules.proofs.Choices.{then-ok, then-no, then-first, then-second}
 use Rattle.rules.proofs.Rows.{length-laid}
-use Rattle.rules.proofs.Same.{room-ok}
+use Rattle.rules.proofs.Determined.{tells-refused}
+use Rattle.rules.proofs.Answering.{tells-accepted}
+use Rattle.rules.proofs.Needs.{room-ok, room-long}
 use Rattle.rules.proofs.Held.{net-held}
 use Rattle.rules.proofs.Checked.{checked-set}
 use Rattle.rules.proofs.Fits.{report-longest}
@@ -33,23 +33,7 @@ use Rattle.report.specs.Lines.{Ready}
 use Rattle.report.specs.Answer.{Made, Says, it, line, Printed}
 use Rattle.report.proofs.Texts.{wrote-laid, wrote-then}
 
--- ---- what an answer says of the verdict
-
-answered : (v : Verdict) (values : List ℕ) (bytes : ℕ) → accepted (bytes ∷ []) ≡ tell v values → v ≡ Accepted
-unfolding tell
-answered Accepted values bytes e = refl
-answered (Refused number place) values bytes e = let z : _≡_ {A = ℕ} 0 1 = cc in absurd (omega arith)
-
-turned-down : (v : Verdict) (values : List ℕ) (number place : ℕ) → refused number place ≡ tell v values → v ≡ Refused number place
-unfolding tell
-turned-down Accepted values number place e = let z : _≡_ {A = ℕ} 0 1 = cc in absurd (omega arith)
-turned-down (Refused x y) values number place e = cc
-
 -- ---- room for the longest tables, and for the longest report
-
-room-held : (long : ℕ) (lent : List ℕ) → needRoom long lent ≡ Accepted → long ≤ length lent
-unfolding needRoom
-room-held long lent e = leb-true long (length lent) (need-ok (leb long (length lent)) 13 0 (refuse-zero (need (leb long (length lent)) 14 0) 0 e) .0)
 
 module _ (s : List ℕ) where
   -- room that is enough for every accepted file leaves the verdict to the check
@@ -78,7 +62,7 @@ module _ (s : List ℕ) where
   pub made-ready : (answer : LengthAnswer) (tables : List ℕ) (bytes : ℕ) (net : Network) → Made s answer tables → answer ≡ long.Length bytes → net ≡ headerOf s → Ready s net tables
   unfolding tablesEntry lengthTells onAccept
   made-ready answer tables bytes net M e h =
-      let v : andThen (check s) (needRoom (tablesLength (headerOf s)) (M .before)) ≡ Accepted = answered _ (tablesLength (headerOf s) ∷ []) bytes (sym (ap lengthTells e) ∙ M .kept .answer) in
+      let v : andThen (check s) (needRoom (tablesLength (headerOf s)) (M .before)) ≡ Accepted = tells-accepted _ (tablesLength (headerOf s) ∷ []) (bytes ∷ []) (sym (ap lengthTells e) ∙ M .kept .answer) in
       let c = then-first (check s) (needRoom (tablesLength (headerOf s)) (M .before)) v in
       let A = checked-set s c .rules .limits in
       record {
@@ -106,7 +90,7 @@ module _ (s : List ℕ) where
   pub made-refused : (answer : LengthAnswer) (tables old : List ℕ) (number place : ℕ) → Made s answer tables → answer ≡ long.Refused number place → length old ≡ 22875 → Promise reportEntry s old (long.Refused number place) old
   unfolding tablesEntry reportEntry lengthTells tell onAccept
   made-refused answer tables old number place M e l =
-      let t : andThen (check s) (needRoom (tablesLength (headerOf s)) (M .before)) ≡ Refused number place = turned-down _ (tablesLength (headerOf s) ∷ []) number place (sym (ap lengthTells e) ∙ M .kept .answer) in
+      let t : andThen (check s) (needRoom (tablesLength (headerOf s)) (M .before)) ≡ Refused number place = tells-refused _ (tablesLength (headerOf s) ∷ []) number place (sym (ap lengthTells e) ∙ M .kept .answer) in
       let v : andThen (check s) (needRoom (length (reportText (setOf s))) old) ≡ Refused number place = report-verdict old l ∙ sym (tables-verdict (M .before) (M .long)) ∙ t in
       record { answer = rw v; lent = rw v }
 
@@ -127,7 +111,7 @@ module _ (s : List ℕ) where
     where
       go : (v : Verdict) → andThen (check s) (needRoom (length (reportText (setOf s))) old) ≡ v → mid ≡ onAccept v (laid (reportText (setOf s)) old) old → length mid ≡ length old
       go Accepted e m =
-          let r = room-held (length (reportText (setOf s))) old (then-second (check s) (needRoom (length (reportText (setOf s))) old) e) in
+          let r = room-long (length (reportText (setOf s))) old (then-second (check s) (needRoom (length (reportText (setOf s))) old) e) in
           ap length m ∙ length-laid (reportText (setOf s)) old r
       go (Refused number place) e m = ap length m
 
@@ -135,14 +119,14 @@ module _ (s : List ℕ) where
   unfolding reportEntry lengthTells tell onAccept printed
   printed-of old mid new answer r P (it e m) l =
       let o = sym (same-room old mid answer P) ∙ l in
-      let v : andThen (check s) (needRoom (length (reportText (setOf s))) old) ≡ Accepted = answered _ (length (reportText (setOf s)) ∷ []) r (sym (ap lengthTells e) ∙ P .answer) in
+      let v : andThen (check s) (needRoom (length (reportText (setOf s))) old) ≡ Accepted = tells-accepted _ (length (reportText (setOf s)) ∷ []) (r ∷ []) (sym (ap lengthTells e) ∙ P .answer) in
       let c : check s ≡ Accepted = sym (report-verdict s old o) ∙ v in
       let a : accepted (r ∷ []) ≡ accepted (length (reportText (setOf s)) ∷ []) = sym (ap lengthTells e) ∙ P .answer ∙ ap (λ (x : Verdict). tell x (length (reportText (setOf s)) ∷ [])) v in
       let z : r ≡ length (reportText (setOf s)) = cc in
       record { is = m ∙ P .lent ∙ rw (v, c); long = z ∙ rw c; fits = omega (arith, ap length m, report-longest (setOf s) (checked-set s c)) }
   printed-of old mid new answer r P (line number place e w) l =
       let o = sym (same-room old mid answer P) ∙ l in
-      let v : andThen (check s) (needRoom (length (reportText (setOf s))) old) ≡ Refused number place = turned-down _ (length (reportText (setOf s)) ∷ []) number place (sym (ap lengthTells e) ∙ P .answer) in
+      let v : andThen (check s) (needRoom (length (reportText (setOf s))) old) ≡ Refused number place = tells-refused _ (length (reportText (setOf s)) ∷ []) number place (sym (ap lengthTells e) ∙ P .answer) in
       let c : check s ≡ Refused number place = sym (report-verdict s old o) ∙ v in
       let m : mid ≡ old = P .lent ∙ ap (λ (x : Verdict). onAccept x (laid (reportText (setOf s)) old) old) v in
       let z : r ≡ length (refusalLine number place) = w .on ∙ zero-add (length (refusalLine number place)) in

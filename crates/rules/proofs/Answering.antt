@@ -26,7 +26,7 @@ use Rattle.rules.proofs.Rows.{laid-front, laid-rest}
 use Rattle.rules.proofs.Determined.{read-one, length-one, step-one, run-one, verdict-one}
 
 -- values are told of an accepted verdict alone
-tells-accepted : (v : Verdict) (given values : List ℕ) → accepted values ≡ tell v given → v ≡ Accepted
+pub tells-accepted : (v : Verdict) (given values : List ℕ) → accepted values ≡ tell v given → v ≡ Accepted
 unfolding tell
 tells-accepted Accepted given values e = refl
 tells-accepted (Refused number place) given values e = let z : _≡_ {A = ℕ} 0 1 = cc in absurd (omega arith)

@@ -34,7 +34,7 @@ use Rattle.rules.specs.Demands.{Numbered, TakesEveryInput}
 -- ---- an entry takes every input where each telling has an answer, and only one
 
 -- a refusal is told of that refused verdict alone
-tells-refused : (v : Verdict) (given : List ℕ) (number place : ℕ) → refused number place ≡ tell v given → v ≡ Refused number place
+pub tells-refused : (v : Verdict) (given : List ℕ) (number place : ℕ) → refused number place ≡ tell v given → v ≡ Refused number place
 unfolding tell
 tells-refused Accepted given number place e = let z : _≡_ {A = ℕ} 0 1 = cc in absurd (omega arith)
 tells-refused (Refused x y) given number place e = cc
