@@ -16,7 +16,7 @@ use Rattle.rules.specs.File.{headerOf, setOf}
 use Rattle.rules.specs.Distance.{tableBytes}
 use Rattle.rules.specs.Judgement.{andThen, needRoom, check}
 use Rattle.rules.specs.Report.{decimal, newline, reportText, refusalLine, printed}
-use Rattle.rules.specs.Answers.{accepted, refused, tell, lengthTells}
+use Rattle.rules.specs.Answers.{accepted, tell, lengthTells}
 use Rattle.rules.specs.Entries.{onAccept, Promise, tablesEntry, reportEntry}
 use Rattle.rules.specs.Demands.{WithinLimits}
 use Rattle.rules.proofs.Choices.{then-ok, then-no, then-first, then-second}

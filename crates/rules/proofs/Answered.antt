@@ -1,11 +1,10 @@
 -- Demand 3 of what the entry `run` returns: what it accepts, what it then answers and leaves, and that it is delivered where the destination is up.
 use mathlib.Core.Path.{_≡_, refl, sym, ap, subst, _∙_}
 use mathlib.Core.List.{List}
-use Prim.Native.Nat.{ℕ, suc, _≤_, _<_}
+use Prim.Native.Nat.{ℕ, suc}
 use native.Mathlib.Omega.{arith}
-use lib.ListN.{length, take}
+use lib.ListN.{take}
 use borrow.Author.Tests.{eqb-true}
-use Rattle.rules.specs.declared.Network.{Network}
 use Rattle.rules.specs.declared.Failure.{Failure}
 use Rattle.rules.specs.declared.Failure.the-variants.{Nothing, Link, Node}
 use Rattle.rules.specs.declared.Verdict.{Verdict}
@@ -19,11 +18,10 @@ use Rattle.rules.specs.Limits.{tablesLength, mostHops, trailRoom}
 use Rattle.rules.specs.File.{Set, headerOf, setOf}
 use Rattle.rules.specs.Isolation.{home}
 use Rattle.rules.specs.Distance.{tableBytes}
-use Rattle.rules.specs.Forwarding.{faultOf, failed, up, lentTables, packet, Run, hops, trail, run}
-use Rattle.rules.specs.Judgement.{check}
+use Rattle.rules.specs.Forwarding.{faultOf, up, lentTables, packet, Run, hops, trail, run}
 use Rattle.rules.specs.Report.{runUnder}
-use Rattle.rules.specs.Entries.{Promise, tablesEntry, RunInput, RunLent, runOf, runValues, runEntry}
-use Rattle.rules.specs.Demands.{Bytes, AcceptedSet, AcceptsExactly, ThenGives, IsEnded, Front, TablesMeet, RunMeets, RunGives, Tolerated, DeliveredByRun}
+use Rattle.rules.specs.Entries.{Promise, tablesEntry, RunInput, RunLent, runOf, runEntry}
+use Rattle.rules.specs.Demands.{Bytes, AcceptsExactly, ThenGives, IsEnded, Front, RunMeets, RunGives, Tolerated, DeliveredByRun}
 use Rattle.rules.proofs.Choices.{then-ok, then-first, then-second}
 use Rattle.rules.proofs.Rows.{laid-front}
 use Rattle.rules.proofs.Answering.{accepts, told, left, front-laid, run-values, run-is, journeyOf}
@@ -48,8 +46,7 @@ run-asked i d small e =
     let packet = then-second _ _ e in
     let source = then-second _ _ packet in
     let room = then-second _ _ source in
-    let known = packet-needed (headerOf (i .file)) _ (i .failure) (then-first _ _ packet) in
-    (
+    let known = packet-needed (headerOf (i .file)) _ (i .failure) (then-first _ _ packet) in (
       setOf (i .file),
       record {
         file = accepted-file (i .file) small (then-first _ _ e);

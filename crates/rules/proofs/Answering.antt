@@ -1,5 +1,5 @@
 -- From a promise to what an entry returns: an answer that is no refusal goes with an accepted verdict, and with nothing else.
-use mathlib.Core.Path.{_≡_, refl, sym, ap, subst, _∙_}
+use mathlib.Core.Path.{_≡_, refl, sym, ap, _∙_}
 use mathlib.Core.List.{List, [], _∷_}
 use Prim.Native.Nat.{ℕ}
 use native.Mathlib.Omega.{arith}

@@ -1,8 +1,7 @@
 -- Demand 3 of what the entry `build` returns: what it accepts, what it then answers and leaves, and that n as the cap succeeds exactly where any one node
 -- can be removed.
-use mathlib.Core.Path.{_≡_, refl, sym, ap, subst, _∙_}
+use mathlib.Core.Path.{_≡_, sym, ap, subst, _∙_}
 use mathlib.Core.Bool.{true}
-use mathlib.Core.Logic.{_↔_}
 use mathlib.Core.List.{List}
 use Prim.Native.Nat.{ℕ, _≤_}
 use native.Mathlib.Omega.{arith}
@@ -16,8 +15,8 @@ use Rattle.rules.specs.Limits.{fileLength}
 use Rattle.rules.specs.File.{Set, encode, headerOf, setOf}
 use Rattle.rules.specs.Building.{fits, built, buildNumber}
 use Rattle.rules.specs.Judgement.{judge, needFit, needRoom}
-use Rattle.rules.specs.Entries.{Promise, BuildInput, builtFrom, buildEntry}
-use Rattle.rules.specs.Demands.{Bytes, MeetsRules, AcceptsExactly, ThenGives, IsLength, Front, FileOf, Removable, withTopologies, topologiesNeeded, BuildMeets, BuildGives, BuildAnswers}
+use Rattle.rules.specs.Entries.{BuildInput, builtFrom, buildEntry}
+use Rattle.rules.specs.Demands.{Bytes, MeetsRules, AcceptsExactly, ThenGives, IsLength, Front, Removable, withTopologies, topologiesNeeded, BuildMeets, BuildGives, BuildAnswers}
 use Rattle.rules.proofs.Choices.{refuse-ok, refuse-zero, then-ok, then-first, then-second}
 use Rattle.rules.proofs.Answering.{accepts, was-accepted, told, left, front-laid, length-values, length-is}
 use Rattle.rules.proofs.Needs.{room-ok, room-long, graph-needed, graph-given, cap-needed, cap-given}
@@ -68,8 +67,7 @@ build-asked i lent small e =
     let a = asked i lent e in
     let G : Set = setOf (i .file) in
     let R = judged (i .file) (a .file) .rules in
-    let O = fitted-removable G (i .cap) (a .fit) in
-    (
+    let O = fitted-removable G (i .cap) (a .fit) in (
       G,
       record {
         file = judged-file (i .file) small (a .file);

@@ -14,7 +14,7 @@ use borrow.Author.Tests.{eq-eqb, ne-eqb, lt-ltb, le-ltb, ltb-true, ltb-false}
 use Rattle.rules.specs.Basics.{if_then_else_, flat}
 use Rattle.rules.specs.File.{Set}
 use Rattle.rules.specs.Report.{detectionLine, detectionLines}
-use Rattle.rules.specs.Demands.{AcceptedSet, other, nodeAt, endAt, Listed, Coverage, Covered}
+use Rattle.rules.specs.Demands.{AcceptedSet, other, nodeAt, endAt, Listed, Covered}
 use Rattle.rules.proofs.Choices.{if-yes, if-no}
 use Rattle.rules.proofs.Rows.{flat-ext}
 use Rattle.rules.proofs.Lines.{lines-are-runs}

@@ -1,9 +1,7 @@
 -- Demand 2 of the entries `read` and `write`: what each accepts, and what it then answers and leaves.
 use mathlib.Core.Path.{_≡_, refl, sym, ap, subst, _∙_}
 use mathlib.Core.List.{List}
-use Prim.Native.Nat.{ℕ, _*_, _≤_}
-use native.Mathlib.Omega.{arith}
-use lib.ListN.{length, getD, take}
+use Prim.Native.Nat.{ℕ, _*_}
 use Rattle.rules.specs.declared.Network.{Network}
 use Rattle.rules.specs.declared.Verdict.the-variants.{Accepted}
 use Rattle.rules.specs.declared.ReadAnswer.the-variants as read
@@ -102,8 +100,7 @@ unfolding writeEntry cutTo
 write-asked i room fair e =
     let rest = then-second _ _ e in
     let l = lists-long 0 (i .net) (i .lists) (then-first _ _ rest) in
-    let R = cut-meets (i .net) (i .lists) l (then-first _ _ (then-second _ _ rest)) in
-    (
+    let R = cut-meets (i .net) (i .lists) l (then-first _ _ (then-second _ _ rest)) in (
       cutTo (i .net) (i .lists),
       record { limits = R .limits; lists = l; set = refl; rules = R; room = room-long (fileLength (i .net)) room (then-second _ _ (then-second _ _ rest)) },
     )

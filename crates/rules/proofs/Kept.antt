@@ -1,7 +1,7 @@
 -- Demand 1: what an accepted call leaves in lent room is as long as the room was.
-use mathlib.Core.Path.{_≡_, refl, sym, ap, ap₂, _∙_}
+use mathlib.Core.Path.{_≡_, ap, ap₂}
 use mathlib.Core.List.{List, [], _∷_}
-use Prim.Native.Nat.{ℕ, suc, _≤_, _<_}
+use Prim.Native.Nat.{ℕ, _≤_, _<_}
 use native.Mathlib.Omega.{arith}
 use lib.ListN.{length}
 use Rattle.rules.specs.declared.Verdict.the-variants.{Accepted}
@@ -17,7 +17,7 @@ use Rattle.rules.specs.Demands.{itsLength, listLengths, runLengths}
 use Rattle.rules.proofs.Choices.{then-first, then-second}
 use Rattle.rules.proofs.Rows.{length-laid}
 use Rattle.rules.proofs.Encoded.{encode-long}
-use Rattle.rules.proofs.Held.{net-held, a-long, b-long, weights-long, homes-long, rows-long}
+use Rattle.rules.proofs.Held.{a-long, b-long, weights-long, homes-long, rows-long}
 use Rattle.rules.proofs.Checked.{checked-set}
 use Rattle.rules.proofs.Needs.{lists-long, room-long, packet-needed}
 use Rattle.rules.proofs.Runs.{always-bounded}

@@ -1,12 +1,12 @@
 -- The file of a set, field by field, as 01's table has it.
-use mathlib.Core.Path.{_≡_, sym, ap, _∙_}
+use mathlib.Core.Path.{_≡_}
 use Prim.Native.Nat.{ℕ, suc, _+_, _*_, _<_}
 use native.Mathlib.Omega.{arith}
 use lib.ListN.{getD}
 use Rattle.rules.specs.Limits.{rowWeights, rowLength, linkPlace, homePlace, rowPlace}
-use Rattle.rules.specs.File.{Set, bytes2, headerBytes, linkBytes, homeBytes, rowBytes, rowStart, encode}
+use Rattle.rules.specs.File.{Set, bytes2, headerBytes, linkBytes, homeBytes, rowBytes, encode}
 use Rattle.rules.specs.Isolation.{rowInForce}
-use Rattle.rules.specs.Demands.{at, weightPlace, LaidOut, FilesLaidOut}
+use Rattle.rules.specs.Demands.{at, weightPlace, FilesLaidOut}
 use Rattle.rules.proofs.Encoded.{moved, at-header, at-link, at-home, at-row, at-weight, encode-long}
 use Rattle.rules.proofs.Held.{row-entry}
 

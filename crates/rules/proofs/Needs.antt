@@ -1,8 +1,8 @@
 -- What each needed test asks, as a proposition: lists and room, 13, 11 and 12. Each law both ways.
-use mathlib.Core.Path.{_≡_, refl, sym, ap, _∙_}
+use mathlib.Core.Path.{_≡_, refl, sym}
 use mathlib.Core.Bool.{Bool, true, false}
 use mathlib.Core.List.{List}
-use Prim.Native.Nat.{ℕ, suc, _*_, _≤_, _<_}
+use Prim.Native.Nat.{ℕ, suc, _≤_, _<_}
 use native.Mathlib.Omega.{arith}
 use lib.Dec.{eqb, leb}
 use lib.ListN.{length}
@@ -13,9 +13,8 @@ use Rattle.rules.specs.declared.Failure.{Failure}
 use Rattle.rules.specs.declared.Failure.the-variants.{Nothing, Link, Node}
 use Rattle.rules.specs.declared.Verdict.the-variants.{Accepted}
 use Rattle.rules.specs.Basics.{if_then_else_, need}
-use Rattle.rules.specs.Limits.{homeRecords, rowWeights}
 use Rattle.rules.specs.Forwarding.{faultOf, failed}
-use Rattle.rules.specs.Judgement.{refuse, needSet, needGraph, needCap, needFailure, needPacket, needSource, sourceNumber, needRoom}
+use Rattle.rules.specs.Judgement.{needSet, needGraph, needCap, needFailure, needPacket, needSource, sourceNumber, needRoom}
 use Rattle.rules.specs.Entries.{Lists, needLists}
 use Rattle.rules.specs.Demands.{LongLists, InRange, Standing}
 use Rattle.rules.proofs.Choices.{need-ok, need-yes, need-le, need-lt, numbers, refuse-ok, refuse-zero}

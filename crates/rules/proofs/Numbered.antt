@@ -20,7 +20,7 @@ use Rattle.rules.specs.Forwarding.{Tables, alternateNumber, changeNumber
 use Rattle.rules.specs.Building.{buildNumber}
 use Rattle.rules.specs.Judgement.{refuse, andThen, inTurn, needMark, headerNumber, linkNumber, homeNumber, rowNumber, records, judge, needSet, needGraph, topologies, check, needFailure, needPacket, needCap, needFit, sourceNumber, needSource, needRoom}
 use Rattle.rules.specs.Entries.{NothingLent, Lists, needLists, readEntry, WriteInput, writeEntry, checkEntry, BuildInput, buildEntry, tablesEntry, StepInput, lookupsOf, stepEntry, RunInput, RunLent, runEntry, reportEntry}
-use Rattle.rules.specs.Demands.{WithinLimits, InTable, Numbered}
+use Rattle.rules.specs.Demands.{WithinLimits, Numbered}
 use Rattle.rules.proofs.Choices.{refuse-zero}
 use Rattle.rules.proofs.Records.{header-meets}
 use Rattle.rules.proofs.Accepted.{judged, length-bound}

@@ -5,9 +5,9 @@ use mathlib.Core.List.{List}
 use Prim.Native.Nat.{ℕ, zero, suc, max, _≤_, _<_}
 use native.Mathlib.Omega.{arith}
 use lib.Dec.{ltb, leb}
-use lib.ListN.{length, getD, set}
+use lib.ListN.{getD, set}
 use borrow.Author.Tests.{ltb-true, ltb-false, leb-true, leb-false, eq-eqb}
-use Rattle.rules.specs.Basics.{if_then_else_, upTo}
+use Rattle.rules.specs.Basics.{if_then_else_}
 use Rattle.rules.specs.File.{Set}
 use Rattle.rules.specs.Isolation.{home, topologyNumber, class}
 use Rattle.rules.specs.Building.{withHomes, admits, firstTopology, homesAfter, firstFit, fits, highest, filled, built}

@@ -1,5 +1,5 @@
 -- Demand 2: an accepted file written out again is the same bytes, and a set written out reads back as itself. Both from what `read` and `write` accept and give.
-use mathlib.Core.Path.{_≡_, refl, sym, ap, ap₂, subst, _∙_}
+use mathlib.Core.Path.{_≡_, refl, sym, ap, subst, _∙_}
 use mathlib.Core.List.{List}
 use Prim.Native.Nat.{ℕ, _*_, _≤_}
 use native.Mathlib.Omega.{arith}
@@ -78,13 +78,13 @@ same-bytes s small before after h P room written r enough Q =
     let e : h ≡ S .net = same-counts h (S .net) (G .answer) in
     let bytes : length s ≡ fileLength (S .net) = ap length (sym (M .1 .file .bytes)) ∙ encode-long S in
     let W = write-gives S (record { net = h; lists = after }) room written r Q
-        (record {
-          limits = subst WithinLimits (sym e) (R .limits);
-          lists = subst (λ (g : Network). LongLists g after) (sym e) (lists-long S R s before after (read.Read h) G);
-          set = lists-hold S R s before after (read.Read h) G ∙ ap (λ (g : Network). cutTo g after) (sym e);
-          rules = R;
-          room = omega (arith, ap fileLength e);
-        })
+    (record {
+      limits = subst WithinLimits (sym e) (R .limits);
+      lists = subst (λ (g : Network). LongLists g after) (sym e) (lists-long S R s before after (read.Read h) G);
+      set = lists-hold S R s before after (read.Read h) G ∙ ap (λ (g : Network). cutTo g after) (sym e);
+      rules = R;
+      room = omega (arith, ap fileLength e);
+    })
     in
     (W .answer ∙ ap long.Length (sym bytes), ap (λ (x : ℕ). take x written) (bytes ∙ sym (encode-long S)) ∙ W .file .is ∙ M .1 .file .bytes)
 
@@ -102,9 +102,8 @@ reads-back h d room written bytes P before after r room-enough Q =
     sym (ap (λ (x : ℕ). take x written) (same-length bytes (fileLength (S .net)) (W .answer) ∙ sym (encode-long S)) ∙ W .file .is)
     in
     let G = read-gives S (take bytes written) before after r Q
-        (record { file = record { rules = R; bytes = file }; room = subst (λ (g : Network). LongLists g before) (sym e) room-enough })
-    in
-    (
+    (record { file = record { rules = R; bytes = file }; room = subst (λ (g : Network). LongLists g before) (sym e) room-enough })
+    in (
       G .answer ∙ ap read.Read e,
       subst (λ (g : Network). SameLists g after d) e (same-lists S R (take bytes written) before after r G d (M .1 .set ∙ ap (λ (g : Network). cutTo g d) (sym e))),
     )

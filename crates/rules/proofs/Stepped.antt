@@ -1,22 +1,19 @@
 -- Of the entry `step`: what it accepts, and what it then answers.
-use mathlib.Core.Path.{_≡_, refl, sym, ap, subst, _∙_}
+use mathlib.Core.Path.{_≡_, refl, sym, subst, _∙_}
 use mathlib.Core.Bool.{Bool, true, false, not, _||_, true≢false, false≢true}
 use Prim.Native.Nat.{ℕ}
 use native.Mathlib.Omega.{arith}
 use lib.Dec.{eqb}
-use lib.ListN.{length}
 use borrow.Author.Tests.{eqb-true, eqb-false, eq-eqb, ne-eqb}
 use Rattle.rules.specs.declared.Packet.{Packet}
 use Rattle.rules.specs.declared.Verdict.the-variants.{Accepted}
-use Rattle.rules.specs.declared.StepAnswer.the-variants as stepped
 use Rattle.rules.specs.Basics.{if_then_else_, need}
 use Rattle.rules.specs.Limits.{tablesLength}
 use Rattle.rules.specs.File.{Set, headerOf, setOf}
 use Rattle.rules.specs.Isolation.{home, neighbours}
 use Rattle.rules.specs.Forwarding.{Tables, faultOf, up, lentTables, step, alternateNumber, changeNumber, towardNumber, lookupNumber}
-use Rattle.rules.specs.Judgement.{refuse}
 use Rattle.rules.specs.Entries.{NothingLent, StepInput, lookupsOf, stepOf, stepEntry}
-use Rattle.rules.specs.Demands.{Bytes, AcceptsExactly, ThenGives, IsTaken, LooksUpNeighbours, LooksUp, StepMeets, StepGives}
+use Rattle.rules.specs.Demands.{Bytes, AcceptsExactly, ThenGives, IsTaken, LooksUp, StepMeets, StepGives}
 use Rattle.rules.proofs.Choices.{refuse-ok, refuse-zero, then-ok, then-first, then-second}
 use Rattle.rules.proofs.Answering.{accepts, told, step-values, step-is}
 use Rattle.rules.proofs.Needs.{room-ok, room-long, set-needed, set-given, packet-needed, packet-given, source-needed, source-given}
@@ -91,8 +88,7 @@ step-asked i d small e =
     let packet = then-second _ _ set in
     let source = then-second _ _ packet in
     let room = then-second _ _ source in
-    let known = packet-needed (headerOf (i .file)) (i .packet) (i .failure) (then-first _ _ packet) in
-    (
+    let known = packet-needed (headerOf (i .file)) (i .packet) (i .failure) (then-first _ _ packet) in (
       setOf (i .file),
       record {
         file = judged-file (i .file) small (then-first _ _ e);

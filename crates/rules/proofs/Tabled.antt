@@ -1,8 +1,8 @@
 -- Demand 2 of the entries `check` and `tables`: what each accepts, and what `tables` then answers and leaves, byte by byte.
-use mathlib.Core.Path.{_≡_, refl, sym, ap, ap₂, subst, _∙_}
+use mathlib.Core.Path.{_≡_, refl, sym, ap, subst, _∙_}
 use mathlib.Core.Bool.{Bool, true, false, not, _&&_}
 use mathlib.Core.Logic.{_⊎_, inl, inr}
-use mathlib.Core.List.{List, []}
+use mathlib.Core.List.{List}
 use Prim.Native.Nat.{ℕ, _+_, _≤_, _<_}
 use native.Mathlib.Omega.{arith}
 use lib.Dec.{eqb}
@@ -11,15 +11,15 @@ use borrow.Author.Tests.{eq-eqb}
 use Rattle.rules.specs.declared.Network.{Network}
 use Rattle.rules.specs.declared.Verdict.the-variants.{Accepted}
 use Rattle.rules.specs.declared.LengthAnswer.the-variants as long
-use Rattle.rules.specs.Basics.{if_then_else_, laid}
+use Rattle.rules.specs.Basics.{laid}
 use Rattle.rules.specs.Limits.{tablesLength}
 use Rattle.rules.specs.File.{Set, headerOf, setOf}
 use Rattle.rules.specs.Isolation.{neighbours, home}
 use Rattle.rules.specs.Distance.{nextHop, alternate, tableBytes}
 use Rattle.rules.specs.Forwarding.{entryPlace}
 use Rattle.rules.specs.Judgement.{check, needRoom}
-use Rattle.rules.specs.Entries.{NothingLent, checkEntry, tablesEntry}
-use Rattle.rules.specs.Demands.{Bytes, AcceptedSet, AcceptsExactly, ThenGives, IsAccepted, IsLength, FileOf, AcceptedFile, CheckMeets, NextHopIs, AlternateIs, TablesMeet, TablesGive}
+use Rattle.rules.specs.Entries.{checkEntry, tablesEntry}
+use Rattle.rules.specs.Demands.{Bytes, AcceptsExactly, ThenGives, IsAccepted, IsLength, FileOf, AcceptedFile, CheckMeets, NextHopIs, AlternateIs, TablesMeet, TablesGive}
 use Rattle.rules.proofs.Choices.{if-yes, if-no, then-ok, then-first, then-second}
 use Rattle.rules.proofs.Rows.{getD-laid, laid-rest}
 use Rattle.rules.proofs.Square.{tables-long, inside, entry-at, last-at}
@@ -105,13 +105,13 @@ tables-gives S s before after r P M =
     let c : ℕ = S .net .k + 1 in
     let next-there : (i u t : ℕ) → i ≤ S .net .k → u < n → t < n → getD after (entryPlace (S .net) i u t) 0 ≡ nextHop S i u t =
     λ i u t li lu lt. ap (λ (l : List ℕ). getD l (entryPlace (S .net) i u t) 0) lent
-        ∙ getD-laid (tableBytes S) before (entryPlace (S .net) i u t) 0 (inside (nextHop S) (alternate S) n c i u t (omega arith) lu lt)
-        ∙ entry-at (nextHop S) (alternate S) n c i u t (omega arith) lu lt
+    ∙ getD-laid (tableBytes S) before (entryPlace (S .net) i u t) 0 (inside (nextHop S) (alternate S) n c i u t (omega arith) lu lt)
+    ∙ entry-at (nextHop S) (alternate S) n c i u t (omega arith) lu lt
     in
     let alternate-there : (u v : ℕ) → u < n → v < n → getD after (entryPlace (S .net) c u v) 0 ≡ alternate S u v =
     λ u v lu lv. ap (λ (l : List ℕ). getD l (entryPlace (S .net) c u v) 0) lent
-        ∙ getD-laid (tableBytes S) before (entryPlace (S .net) c u v) 0 (inside (nextHop S) (alternate S) n c c u v (omega arith) lu lv)
-        ∙ last-at (nextHop S) (alternate S) n c u v lu lv
+    ∙ getD-laid (tableBytes S) before (entryPlace (S .net) c u v) 0 (inside (nextHop S) (alternate S) n c c u v (omega arith) lu lv)
+    ∙ last-at (nextHop S) (alternate S) n c u v lu lv
     in
     record {
       answer = length-is r (tablesLength (headerOf s)) (told tablesEntry s before after r P e) ∙ ap (λ (h : Network). long.Length (tablesLength h)) (its-header S s (M .file));
