@@ -59,7 +59,7 @@ fn all_spared(nb: &[u32], n: u8) -> bool
 // ---- first fit
 
 // With v added, topology i's backbone and two-link rules hold.
-fn admits(nb: &[u32], n: u8, isos: &[u32; 32], i: u8, v: u8) -> bool
+fn admits(nb: &[u32], n: u8, isos: &[u32; Network::MOST_TOPOLOGIES], i: u8, v: u8) -> bool
     requires { ⌜ (1 ≤ n) × (n ≤ 32) ⌝ }
     requires { ⌜ (1 ≤ i) × (i ≤ 32) ⌝ }
     requires { ⌜ v < 32 ⌝ }
@@ -77,7 +77,7 @@ fn first_fit(nb: &[u32], n: u8, cap: u8, homes: &mut [u8]) -> u8
     requires { ⌜ now homes ≡ replicate n 0 ⌝ }
     ensures { λ r. ⌜ Placed (now (nb .entry)) n cap (now (homes .exit)) r ⌝ }
 {
-    let mut isos = [0u32; 32];
+    let mut isos = [0u32; Network::MOST_TOPOLOGIES];
     let mut v: u8 = 0;
     'build: while v < n {
         let mut i: u8 = 1;
@@ -174,7 +174,7 @@ fn fit_nodes(graph: &[u8], net: Network, cap: u8, nb: &[u32], file: &mut [u8]) -
     requires { ⌜ now nb ≡ neighbourWords (now graph) (net .m) ⌝ }
     ensures { λ r. ⌜ FittedIn (now (graph .entry)) cap (now (file .entry)) r (now (file .exit)) ⌝ }
 {
-    let mut homes = [0u8; 32];
+    let mut homes = [0u8; Network::MOST_NODES];
     let n = net.n as usize;
     fit(graph, net, cap, nb, &mut homes[..n], file)
 }

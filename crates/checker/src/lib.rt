@@ -126,7 +126,7 @@ pub fn topology_number(nb: &[u32], n: u8, iso: u32) -> u8
 // ---- words from a file's bytes
 
 // y comes into x's word.
-pub fn enter(nb: &mut [u32; 32], x: u8, y: u8)
+pub fn enter(nb: &mut [u32; Network::MOST_NODES], x: u8, y: u8)
     requires { ⌜ x < 32 ⌝ }
     requires { ⌜ y < 32 ⌝ }
     ensures { λ _. ⌜ now (nb .exit) ≡ entered (now (nb .entry)) x y ⌝ }
@@ -137,11 +137,11 @@ pub fn enter(nb: &mut [u32; 32], x: u8, y: u8)
 }
 
 // Every node's neighbour word: each link is entered at both its ends.
-pub fn neighbour_words(file: &[u8], m: u16) -> [u32; 32]
+pub fn neighbour_words(file: &[u8], m: u16) -> [u32; Network::MOST_NODES]
     requires { ⌜ Ends (now file) m ⌝ }
     ensures { λ r. ⌜ r ≡ neighbourWords (now (file .entry)) m ⌝ }
 {
-    let mut nb = [0u32; 32];
+    let mut nb = [0u32; Network::MOST_NODES];
     let mut l: u16 = 0;
     while l < m {
         let a = end_a(file, l as usize);

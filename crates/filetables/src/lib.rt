@@ -94,28 +94,28 @@ fn in_parts(
     );
 }
 
-fn ends() -> [u8; 128]
+fn ends() -> [u8; Network::MOST_LINKS]
     ensures { λ r. ⌜ 128 ≡ length r ⌝ }
 {
-    [0; 128]
+    [0; Network::MOST_LINKS]
 }
 
-fn link_weights() -> [u16; 128]
+fn link_weights() -> [u16; Network::MOST_LINKS]
     ensures { λ r. ⌜ 128 ≡ length r ⌝ }
 {
-    [0; 128]
+    [0; Network::MOST_LINKS]
 }
 
-fn nodes() -> [u8; 32]
+fn nodes() -> [u8; Network::MOST_NODES]
     ensures { λ r. ⌜ 32 ≡ length r ⌝ }
 {
-    [0; 32]
+    [0; Network::MOST_NODES]
 }
 
-fn backup_weights() -> [u16; 4096]
+fn backup_weights() -> [u16; Network::MOST_ROW_WEIGHTS]
     ensures { λ r. ⌜ 4096 ≡ length r ⌝ }
 {
-    [0; 4096]
+    [0; Network::MOST_ROW_WEIGHTS]
 }
 
 // The tables of an accepted set's file, into room of their length.

@@ -3,6 +3,7 @@
 use crate::bit_of;
 use crate::first;
 use crate::or_word;
+use rules::Network;
 ghost use mathlib.Core.Path.{_≡_};
 ghost use mathlib.Core.Bool.{false, _||_};
 ghost use lib.Dec.{eqb};
@@ -27,14 +28,14 @@ fn flag(was: bool, x: usize, u: usize) -> bool
     was
 }
 
-fn note(near: &mut [bool; 32], u: usize, x: usize, y: usize)
+fn note(near: &mut [bool; Network::MOST_NODES], u: usize, x: usize, y: usize)
     requires { ⌜ y < 32 ⌝ }
     ensures { λ _. ⌜ now (near .exit) ≡ noted u x y (now (near .entry)) ⌝ }
 {
     near[y] = flag(near[y], x, u);
 }
 
-fn note_link(near: &mut [bool; 32], u: usize, x: usize, y: usize, p: u8, q: u8)
+fn note_link(near: &mut [bool; Network::MOST_NODES], u: usize, x: usize, y: usize, p: u8, q: u8)
     requires { ⌜ (x < 32) × (y < 32) ⌝ }
     ensures { λ _. ⌜ now (near .exit) ≡ notedLink u x y p q (now (near .entry)) ⌝ }
 {
@@ -46,7 +47,7 @@ fn note_link(near: &mut [bool; 32], u: usize, x: usize, y: usize, p: u8, q: u8)
 }
 
 // The neighbours of u that have another home than u.
-fn outlets(a: &[u8], b: &[u8], homes: &[u8], u: usize, near: &mut [bool; 32])
+fn outlets(a: &[u8], b: &[u8], homes: &[u8], u: usize, near: &mut [bool; Network::MOST_NODES])
     requires { ⌜ Homed (now a) (now b) (now homes) (length (now homes)) ⌝ }
     requires { ⌜ now near ≡ replicate 32 false ⌝ }
     ensures { λ _. ⌜ now (near .exit) ≡ outletsBy (now (a .entry)) (now (b .entry)) (now (homes .entry)) u (length (now (a .entry))) ⌝ }
@@ -63,7 +64,7 @@ fn outlets(a: &[u8], b: &[u8], homes: &[u8], u: usize, near: &mut [bool; 32])
 }
 
 // Whether w may stand in for v.
-fn stands_in(near: &[bool; 32], v: usize, w: usize) -> bool
+fn stands_in(near: &[bool; Network::MOST_NODES], v: usize, w: usize) -> bool
     requires { ⌜ w < 32 ⌝ }
     ensures { λ s. ⌜ s ≡ eligible (now (near .entry)) v w ⌝ }
 {
@@ -73,14 +74,14 @@ fn stands_in(near: &[bool; 32], v: usize, w: usize) -> bool
     near[w]
 }
 
-fn lane(r: &[u32; 32], v: usize) -> u32
+fn lane(r: &[u32; Network::LANES], v: usize) -> u32
     requires { ⌜ v < 32 ⌝ }
     ensures { λ s. ⌜ s ≡ getD (now (r .entry)) v 0 ⌝ }
 {
     r[v]
 }
 
-fn distance_at(d: &[[u32; 32]], w: usize, v: usize) -> u32
+fn distance_at(d: &[[u32; Network::LANES]], w: usize, v: usize) -> u32
     requires { ⌜ (w < length (now d)) × (v < 32) ⌝ }
     ensures { λ s. ⌜ s ≡ getD (column v (now (d .entry))) w 0 ⌝ }
 {
@@ -99,7 +100,7 @@ fn lesser_of(ok: bool, key: u32, best: u32) -> u32
 }
 
 // The least distance to v of the nodes that may stand in for it.
-fn least_distance(near: &[bool; 32], d: &[[u32; 32]], v: usize) -> u32
+fn least_distance(near: &[bool; Network::MOST_NODES], d: &[[u32; Network::LANES]], v: usize) -> u32
     requires { ⌜ (length (now d) ≤ 32) × (v < 32) ⌝ }
     ensures { λ s. ⌜ s ≡ leastOf (now (near .entry)) (now (d .entry)) v (length (now (d .entry))) ⌝ }
 {
@@ -127,7 +128,12 @@ fn near_bit(ok: bool, key: u32, best: u32, w: usize) -> u32
 }
 
 // Those of them that are at the distance `best`.
-fn nearest(near: &[bool; 32], d: &[[u32; 32]], v: usize, best: u32) -> u32
+fn nearest(
+    near: &[bool; Network::MOST_NODES],
+    d: &[[u32; Network::LANES]],
+    v: usize,
+    best: u32,
+) -> u32
     requires { ⌜ (length (now d) ≤ 32) × (v < 32) ⌝ }
     ensures { λ s. ⌜ s ≡ nearWord (now (near .entry)) (now (d .entry)) v best (length (now (d .entry))) ⌝ }
 {
@@ -144,7 +150,7 @@ fn nearest(near: &[bool; 32], d: &[[u32; 32]], v: usize, best: u32) -> u32
 }
 
 // The alternate for v of a node whose neighbours with another home are `near`, by the distances d of its home topology.
-fn alternate(near: &[bool; 32], d: &[[u32; 32]], v: usize) -> u8
+fn alternate(near: &[bool; Network::MOST_NODES], d: &[[u32; Network::LANES]], v: usize) -> u8
     requires { ⌜ (length (now d) ≤ 32) × (v < 32) ⌝ }
     ensures { λ s. ⌜ s ≡ alternateBy (now (near .entry)) (now (d .entry)) (length (now (d .entry))) v ⌝ }
 {
@@ -155,7 +161,11 @@ fn alternate(near: &[bool; 32], d: &[[u32; 32]], v: usize) -> u8
     NONE
 }
 
-fn alternate_row(near: &[bool; 32], d: &[[u32; 32]], r: &mut [u8; 32])
+fn alternate_row(
+    near: &[bool; Network::MOST_NODES],
+    d: &[[u32; Network::LANES]],
+    r: &mut [u8; Network::MOST_NODES],
+)
     requires { ⌜ (length (now d) ≤ 32) × (length (now r) ≡ 32) ⌝ }
     ensures { λ _. ⌜ RowBy (now (near .entry)) (now (d .entry)) (now (r .exit)) (length (now (d .entry))) ⌝ }
 {
@@ -167,13 +177,19 @@ fn alternate_row(near: &[bool; 32], d: &[[u32; 32]], r: &mut [u8; 32])
 }
 
 // The alternates of node u, by the distances d of its home topology.
-fn alternates_of(a: &[u8], b: &[u8], homes: &[u8], d: &[[u32; 32]], u: usize) -> [u8; 32]
+fn alternates_of(
+    a: &[u8],
+    b: &[u8],
+    homes: &[u8],
+    d: &[[u32; Network::LANES]],
+    u: usize,
+) -> [u8; Network::MOST_NODES]
     requires { ⌜ Homed (now a) (now b) (now homes) (length (now homes)) ⌝ }
     requires { ⌜ length (now d) ≤ 32 ⌝ }
     ensures { λ r. ⌜ RowOf (now (a .entry)) (now (b .entry)) (now (homes .entry)) (now (d .entry)) u r ⌝ }
 {
-    let mut near = [false; 32];
-    let mut r = [NONE; 32];
+    let mut near = [false; Network::MOST_NODES];
+    let mut r = [NONE; Network::MOST_NODES];
     outlets(a, b, homes, u, &mut near);
     alternate_row(&near, d, &mut r);
     r
@@ -185,9 +201,9 @@ fn alternates_at(
     b: &[u8],
     homes: &[u8],
     i: u8,
-    d: &[[u32; 32]],
+    d: &[[u32; Network::LANES]],
     u: usize,
-    alts: &mut [[u8; 32]],
+    alts: &mut [[u8; Network::MOST_NODES]],
 )
     requires { ⌜ Homed (now a) (now b) (now homes) (length (now homes)) ⌝ }
     requires { ⌜ (length (now d) ≤ 32) × (u < length (now homes)) × (u < length (now alts)) ⌝ }
@@ -200,7 +216,14 @@ fn alternates_at(
 }
 
 // The alternates of the nodes whose home is i, by the distances d of topology i, into their rows.
-pub fn fill(a: &[u8], b: &[u8], homes: &[u8], i: u8, d: &[[u32; 32]], alts: &mut [[u8; 32]])
+pub fn fill(
+    a: &[u8],
+    b: &[u8],
+    homes: &[u8],
+    i: u8,
+    d: &[[u32; Network::LANES]],
+    alts: &mut [[u8; Network::MOST_NODES]],
+)
     requires { ⌜ Homed (now a) (now b) (now homes) (length (now d)) ⌝ }
     requires { ⌜ length (now alts) ≡ length (now d) ⌝ }
     ensures { λ _. ⌜ RowsTo (now (a .entry)) (now (b .entry)) (now (homes .entry)) i (now (d .entry)) (length (now (d .entry))) (now (alts .entry)) (now (alts .exit)) ⌝ }

@@ -2,6 +2,7 @@
 // that this is what 01 asks of an accepted set is shown in proofs/. The neighbours that tie are the bits of a word, of which the lowest is taken.
 pub mod alternates; // alternates.rt: the alternates of the nodes whose home it is
 
+use rules::Network;
 ghost use mathlib.Core.Path.{_≡_};
 ghost use Prim.Native.Nat.{_+_, _*_, _≤_, _<_};
 ghost use lib.ListN.{length, set, replicate};
@@ -35,20 +36,26 @@ fn bit_of(y: u8) -> u32
 }
 
 // In the words w of a node whose row is p, the bit of a neighbour whose row is q, over a link of cost c, where it ties.
-fn mark_row(w: &mut [u32; 32], p: &[u32; 32], q: &[u32; 32], c: u32, bit: u32)
+fn mark_row(
+    w: &mut [u32; Network::LANES],
+    p: &[u32; Network::LANES],
+    q: &[u32; Network::LANES],
+    c: u32,
+    bit: u32,
+)
     requires { ⌜ LowRow (now q) ⌝ }
     requires { ⌜ c ≤ far ⌝ }
     ensures { λ _. ⌜ now (w .exit) ≡ marked c bit (now (p .entry)) (now (q .entry)) 32 (now (w .entry)) ⌝ }
 {
     let mut t = 0;
-    while t < 32 {
+    while t < Network::LANES {
         let v = tie(c + q[t], p[t], bit);
         w[t] = or_word(w[t], v);
         t += 1;
     }
 }
 
-fn mark_one(w: &mut [[u32; 32]], d: &[[u32; 32]], x: u8, y: u8, c: u32)
+fn mark_one(w: &mut [[u32; Network::LANES]], d: &[[u32; Network::LANES]], x: u8, y: u8, c: u32)
     requires { ⌜ MarkSpot (now d) (now w) x y c ⌝ }
     requires { ⌜ LowRows (now d) ⌝ }
     requires { ⌜ WideRows (now w) ⌝ }
@@ -63,7 +70,7 @@ fn mark_one(w: &mut [[u32; 32]], d: &[[u32; 32]], x: u8, y: u8, c: u32)
 }
 
 // A link of cost c between x and y, both ways.
-fn mark_pair(w: &mut [[u32; 32]], d: &[[u32; 32]], x: u8, y: u8, c: u32)
+fn mark_pair(w: &mut [[u32; Network::LANES]], d: &[[u32; Network::LANES]], x: u8, y: u8, c: u32)
     requires { ⌜ MarkPair (now d) (now w) x y c ⌝ }
     requires { ⌜ LowRows (now d) ⌝ }
     requires { ⌜ WideRows (now w) ⌝ }
@@ -73,7 +80,14 @@ fn mark_pair(w: &mut [[u32; 32]], d: &[[u32; 32]], x: u8, y: u8, c: u32)
     mark_one(w, d, y, x, c);
 }
 
-fn mark_link(a: &[u8], b: &[u8], c: &[u32], l: usize, d: &[[u32; 32]], w: &mut [[u32; 32]])
+fn mark_link(
+    a: &[u8],
+    b: &[u8],
+    c: &[u32],
+    l: usize,
+    d: &[[u32; Network::LANES]],
+    w: &mut [[u32; Network::LANES]],
+)
     requires { ⌜ Wired (now a) (now b) (now c) (length (now d)) ⌝ }
     requires { ⌜ LowRows (now d) ⌝ }
     requires { ⌜ WideRows (now w) ⌝ }
@@ -87,7 +101,13 @@ fn mark_link(a: &[u8], b: &[u8], c: &[u32], l: usize, d: &[[u32; 32]], w: &mut [
     mark_pair(w, d, x, y, k);
 }
 
-fn mark_links(a: &[u8], b: &[u8], c: &[u32], d: &[[u32; 32]], w: &mut [[u32; 32]])
+fn mark_links(
+    a: &[u8],
+    b: &[u8],
+    c: &[u32],
+    d: &[[u32; Network::LANES]],
+    w: &mut [[u32; Network::LANES]],
+)
     requires { ⌜ Wired (now a) (now b) (now c) (length (now d)) ⌝ }
     requires { ⌜ LowRows (now d) ⌝ }
     requires { ⌜ WideRows (now w) ⌝ }
@@ -101,14 +121,14 @@ fn mark_links(a: &[u8], b: &[u8], c: &[u32], d: &[[u32; 32]], w: &mut [[u32; 32]
     }
 }
 
-fn zeros() -> [u32; 32]
+fn zeros() -> [u32; Network::LANES]
     ensures { λ r. ⌜ r ≡ replicate 32 0 ⌝ }
 {
-    let r = [0u32; 32];
+    let r = [0u32; Network::LANES];
     r
 }
 
-fn clear(w: &mut [[u32; 32]])
+fn clear(w: &mut [[u32; Network::LANES]])
     ensures { λ _. ⌜ Clear (now (w .exit)) (length (now (w .entry))) ⌝ }
 {
     let mut u = 0;
@@ -119,7 +139,13 @@ fn clear(w: &mut [[u32; 32]])
 }
 
 // Column t: the words of the neighbours that tie toward t.
-fn words(a: &[u8], b: &[u8], c: &[u32], d: &[[u32; 32]], w: &mut [[u32; 32]])
+fn words(
+    a: &[u8],
+    b: &[u8],
+    c: &[u32],
+    d: &[[u32; Network::LANES]],
+    w: &mut [[u32; Network::LANES]],
+)
     requires { ⌜ Wired (now a) (now b) (now c) (length (now d)) ⌝ }
     requires { ⌜ LowRows (now d) ⌝ }
     requires { ⌜ length (now w) ≡ length (now d) ⌝ }
@@ -152,7 +178,7 @@ fn hop(w: u32, u: u8, t: u8) -> u8
 }
 
 // The next hops of node u, by its words.
-fn hop_row(w: &[u32; 32], u: u8, out: &mut [u8])
+fn hop_row(w: &[u32; Network::LANES], u: u8, out: &mut [u8])
     requires { ⌜ length (now out) ≤ 32 ⌝ }
     ensures { λ _. ⌜ now (out .exit) ≡ upTo (hopAt (now (w .entry)) u) (length (now (out .entry))) ⌝ }
 {
@@ -163,7 +189,7 @@ fn hop_row(w: &[u32; 32], u: u8, out: &mut [u8])
     }
 }
 
-fn hop_rows(w: &[[u32; 32]], out: &mut [u8])
+fn hop_rows(w: &[[u32; Network::LANES]], out: &mut [u8])
     requires { ⌜ (length (now w) ≤ 32) × (length (now out) ≡ length (now w) * length (now w)) ⌝ }
     ensures { λ _. ⌜ now (out .exit) ≡ flat (hopsOf (now (w .entry)) (length (now (w .entry)))) (length (now (w .entry))) ⌝ }
 {
@@ -184,8 +210,8 @@ pub fn hop_table(
     a: &[u8],
     b: &[u8],
     c: &[u32],
-    d: &[[u32; 32]],
-    w: &mut [[u32; 32]],
+    d: &[[u32; Network::LANES]],
+    w: &mut [[u32; Network::LANES]],
     out: &mut [u8],
 )
     requires { ⌜ Wired (now a) (now b) (now c) (length (now d)) ⌝ }

@@ -1,6 +1,7 @@
 // The weights and distances of one topology: the row in force, the cost of each link, and the distances of all nodes to all destinations.
 // It promises that they are those of the definitions. Distances are a matrix with a row for each node and a lane for each destination: what
 // a node gains by going through another is one step over whole rows, and once it was tried through every node, no path is left that is shorter.
+use rules::Network;
 ghost use mathlib.Core.Path.{_≡_};
 ghost use Prim.Native.Nat.{_+_, _*_, _≤_, _<_, min};
 ghost use lib.ListN.{length, getD};
@@ -117,17 +118,17 @@ fn lesser(p: u32, q: u32) -> u32
 
 // ---- over one link
 
-fn unit(u: usize) -> [u32; 32]
+fn unit(u: usize) -> [u32; Network::LANES]
     requires { ⌜ u < 32 ⌝ }
     ensures { λ r. ⌜ r ≡ unitRow u ⌝ }
 {
-    let mut r = [FAR; 32];
+    let mut r = [FAR; Network::LANES];
     r[u] = 0;
     r
 }
 
 // Every node at 0 from itself, and no other reached.
-fn begin(d: &mut [[u32; 32]])
+fn begin(d: &mut [[u32; Network::LANES]])
     requires { ⌜ length (now d) ≤ 32 ⌝ }
     ensures { λ _. ⌜ now (d .exit) ≡ upTo unitRow (length (now (d .entry))) ⌝ }
 {
@@ -138,7 +139,7 @@ fn begin(d: &mut [[u32; 32]])
     }
 }
 
-fn direct(d: &mut [[u32; 32]], x: usize, y: usize, c: u32)
+fn direct(d: &mut [[u32; Network::LANES]], x: usize, y: usize, c: u32)
     requires { ⌜ Spot (now d) x y c ⌝ }
     requires { ⌜ LowRows (now d) ⌝ }
     ensures { λ _. ⌜ now (d .exit) ≡ direct x y c (now (d .entry)) ⌝ }
@@ -147,7 +148,7 @@ fn direct(d: &mut [[u32; 32]], x: usize, y: usize, c: u32)
 }
 
 // Link l, both ways.
-fn direct_link(a: &[u8], b: &[u8], c: &[u32], l: usize, d: &mut [[u32; 32]])
+fn direct_link(a: &[u8], b: &[u8], c: &[u32], l: usize, d: &mut [[u32; Network::LANES]])
     requires { ⌜ Wired (now a) (now b) (now c) (length (now d)) ⌝ }
     requires { ⌜ LowRows (now d) ⌝ }
     requires { ⌜ l < length (now a) ⌝ }
@@ -160,7 +161,7 @@ fn direct_link(a: &[u8], b: &[u8], c: &[u32], l: usize, d: &mut [[u32; 32]])
     direct(d, y, x, k);
 }
 
-fn direct_links(a: &[u8], b: &[u8], c: &[u32], d: &mut [[u32; 32]])
+fn direct_links(a: &[u8], b: &[u8], c: &[u32], d: &mut [[u32; Network::LANES]])
     requires { ⌜ Wired (now a) (now b) (now c) (length (now d)) ⌝ }
     requires { ⌜ LowRows (now d) ⌝ }
     ensures { λ _. ⌜ now (d .exit) ≡ directLinks (netOf (now (a .entry)) (now (b .entry)) (now (c .entry))) (length (now (a .entry))) (now (d .entry)) ⌝ }
@@ -175,21 +176,21 @@ fn direct_links(a: &[u8], b: &[u8], c: &[u32], d: &mut [[u32; 32]])
 // ---- through the nodes
 
 // Row p lowered to c + row q, lane by lane.
-fn lower_lanes(p: &mut [u32; 32], q: &[u32; 32], c: u32)
+fn lower_lanes(p: &mut [u32; Network::LANES], q: &[u32; Network::LANES], c: u32)
     requires { ⌜ LowRow (now p) ⌝ }
     requires { ⌜ LowRow (now q) ⌝ }
     requires { ⌜ c < far ⌝ }
     ensures { λ _. ⌜ now (p .exit) ≡ lanes c (now (q .entry)) 32 (now (p .entry)) ⌝ }
 {
     let mut t = 0;
-    while t < 32 {
+    while t < Network::LANES {
         p[t] = lesser(p[t], c + q[t]);
         t += 1;
     }
 }
 
 // Row x lowered to c + row y. Both are copied out, so that the lanes are known not to overlap.
-fn lower_row(d: &mut [[u32; 32]], x: usize, y: usize, c: u32)
+fn lower_row(d: &mut [[u32; Network::LANES]], x: usize, y: usize, c: u32)
     requires { ⌜ (x < length (now d)) × (y < length (now d)) × (c < far) ⌝ }
     requires { ⌜ LowRows (now d) ⌝ }
     ensures { λ _. ⌜ now (d .exit) ≡ lowerRow x y c (now (d .entry)) ⌝ }
@@ -201,7 +202,7 @@ fn lower_row(d: &mut [[u32; 32]], x: usize, y: usize, c: u32)
 }
 
 // What u gains by going through v.
-fn through(d: &mut [[u32; 32]], v: usize, u: usize)
+fn through(d: &mut [[u32; Network::LANES]], v: usize, u: usize)
     requires { ⌜ (length (now d) ≤ 32) × (v < length (now d)) × (u < length (now d)) ⌝ }
     requires { ⌜ LowRows (now d) ⌝ }
     ensures { λ _. ⌜ now (d .exit) ≡ through v u (now (d .entry)) ⌝ }
@@ -213,7 +214,7 @@ fn through(d: &mut [[u32; 32]], v: usize, u: usize)
 }
 
 // What every node gains by going through v.
-fn pass(d: &mut [[u32; 32]], v: usize)
+fn pass(d: &mut [[u32; Network::LANES]], v: usize)
     requires { ⌜ (length (now d) ≤ 32) × (v < length (now d)) ⌝ }
     requires { ⌜ LowRows (now d) ⌝ }
     ensures { λ _. ⌜ now (d .exit) ≡ pass v (length (now (d .entry))) (now (d .entry)) ⌝ }
@@ -226,7 +227,7 @@ fn pass(d: &mut [[u32; 32]], v: usize)
 }
 
 // The same through each node in turn.
-fn settle(d: &mut [[u32; 32]])
+fn settle(d: &mut [[u32; Network::LANES]])
     requires { ⌜ length (now d) ≤ 32 ⌝ }
     requires { ⌜ LowRows (now d) ⌝ }
     ensures { λ _. ⌜ now (d .exit) ≡ passes (length (now (d .entry))) (length (now (d .entry))) (now (d .entry)) ⌝ }
@@ -239,7 +240,7 @@ fn settle(d: &mut [[u32; 32]])
 }
 
 // Column t: the distances toward t, of a topology whose links cost c.
-pub fn distances(a: &[u8], b: &[u8], c: &[u32], d: &mut [[u32; 32]])
+pub fn distances(a: &[u8], b: &[u8], c: &[u32], d: &mut [[u32; Network::LANES]])
     requires { ⌜ Wired (now a) (now b) (now c) (length (now d)) ⌝ }
     ensures { λ _. ⌜ now (d .exit) ≡ settled (netOf (now (a .entry)) (now (b .entry)) (now (c .entry))) (length (now (d .entry))) ⌝ }
 {

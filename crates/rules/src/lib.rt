@@ -35,6 +35,18 @@ impl Network {
 
     pub const MAX_CAP: u8 = 32;
 
+    // The same limits as lengths of lists: an entry for each node, link or topology that there can be, and for each backup weight.
+    pub const MOST_NODES: usize = Network::MAX_NODES as usize;
+
+    pub const MOST_LINKS: usize = Network::MAX_LINKS as usize;
+
+    pub const MOST_TOPOLOGIES: usize = Network::MAX_TOPOLOGIES as usize;
+
+    pub const MOST_ROW_WEIGHTS: usize = Network::MOST_TOPOLOGIES * Network::MOST_LINKS;
+
+    // A row of distances has a lane for each destination that there can be; all lanes are worked on, so that the loop's length is fixed.
+    pub const LANES: usize = Network::MOST_NODES;
+
     // The lengths of the file's records; a row is ROW_HEAD bytes and then WEIGHT bytes for each link.
     pub const HEADER: usize = 8;
 

@@ -61,7 +61,7 @@ fn measure<'a>(
     rows: &'a [u16],
     i: u8,
     c: &mut [u32],
-    d: &mut [[u32; 32]],
+    d: &mut [[u32; Network::LANES]],
 )
     requires { ⌜ AcceptedSet (setWith net (lists (now a) (now b) (now weights) (now homes) (now rows))) ⌝ }
     requires { ⌜ (i ≤ net .k) × (length (now c) ≡ net .m) × (length (now d) ≡ net .n) ⌝ }
@@ -81,9 +81,9 @@ fn topology<'a>(
     rows: &'a [u16],
     i: u8,
     c: &mut [u32],
-    d: &mut [[u32; 32]],
-    w: &mut [[u32; 32]],
-    alts: &mut [[u8; 32]],
+    d: &mut [[u32; Network::LANES]],
+    w: &mut [[u32; Network::LANES]],
+    alts: &mut [[u8; Network::MOST_NODES]],
     out: &mut [u8],
 )
     requires { ⌜ AcceptedSet (setWith net (lists (now a) (now b) (now weights) (now homes) (now rows))) ⌝ }
@@ -107,9 +107,9 @@ fn topology_at<'a>(
     rows: &'a [u16],
     i: u8,
     c: &mut [u32],
-    d: &mut [[u32; 32]],
-    w: &mut [[u32; 32]],
-    alts: &mut [[u8; 32]],
+    d: &mut [[u32; Network::LANES]],
+    w: &mut [[u32; Network::LANES]],
+    alts: &mut [[u8; Network::MOST_NODES]],
     out: &mut [u8],
     at: usize,
 )
@@ -146,9 +146,9 @@ fn topologies<'a>(
     homes: &[u8],
     rows: &'a [u16],
     c: &mut [u32],
-    d: &mut [[u32; 32]],
-    w: &mut [[u32; 32]],
-    alts: &mut [[u8; 32]],
+    d: &mut [[u32; Network::LANES]],
+    w: &mut [[u32; Network::LANES]],
+    alts: &mut [[u8; Network::MOST_NODES]],
     out: &mut [u8],
 )
     requires { ⌜ AcceptedSet (setWith net (lists (now a) (now b) (now weights) (now homes) (now rows))) ⌝ }
@@ -168,7 +168,7 @@ fn topologies<'a>(
     }
 }
 
-fn copy_row(r: &[u8; 32], out: &mut [u8])
+fn copy_row(r: &[u8; Network::MOST_NODES], out: &mut [u8])
     requires { ⌜ length (now out) ≤ 32 ⌝ }
     ensures { λ _. ⌜ now (out .exit) ≡ upTo (entry (now (r .entry))) (length (now (out .entry))) ⌝ }
 {
@@ -180,7 +180,7 @@ fn copy_row(r: &[u8; 32], out: &mut [u8])
 }
 
 // The alternates, one row after the other.
-fn copy_rows(alts: &[[u8; 32]], out: &mut [u8])
+fn copy_rows(alts: &[[u8; Network::MOST_NODES]], out: &mut [u8])
     requires { ⌜ (length (now alts) ≤ 32) × (length (now out) ≡ length (now alts) * length (now alts)) ⌝ }
     ensures { λ _. ⌜ now (out .exit) ≡ flat (entriesOf (now (alts .entry)) (length (now (alts .entry)))) (length (now (alts .entry))) ⌝ }
 {
@@ -205,9 +205,9 @@ fn all_tables<'a>(
     homes: &[u8],
     rows: &'a [u16],
     c: &mut [u32],
-    d: &mut [[u32; 32]],
-    w: &mut [[u32; 32]],
-    alts: &mut [[u8; 32]],
+    d: &mut [[u32; Network::LANES]],
+    w: &mut [[u32; Network::LANES]],
+    alts: &mut [[u8; Network::MOST_NODES]],
     out: &mut [u8],
 )
     requires { ⌜ AcceptedSet (setWith net (lists (now a) (now b) (now weights) (now homes) (now rows))) ⌝ }
@@ -242,9 +242,9 @@ fn in_room<'a>(
     homes: &[u8],
     rows: &'a [u16],
     c: &mut [u32],
-    d: &mut [[u32; 32]],
-    w: &mut [[u32; 32]],
-    alts: &mut [[u8; 32]],
+    d: &mut [[u32; Network::LANES]],
+    w: &mut [[u32; Network::LANES]],
+    alts: &mut [[u8; Network::MOST_NODES]],
     out: &mut [u8],
 )
     requires { ⌜ AcceptedSet (setWith net (lists (now a) (now b) (now weights) (now homes) (now rows))) ⌝ }
@@ -283,12 +283,12 @@ pub fn fill_tables<'a>(
     requires { ⌜ length (now out) ≡ tablesLength net ⌝ }
     ensures { λ _. ⌜ now (out .exit) ≡ tableBytes (setWith net (lists (now (a .entry)) (now (b .entry)) (now (weights .entry)) (now (homes .entry)) (now (rows .entry)))) ⌝ }
 {
-    let row = [0u32; 32];
-    let bytes = [0u8; 32];
-    let mut c = [0u32; 128];
-    let mut d = [row; 32];
-    let mut w = [row; 32];
-    let mut alts = [bytes; 32];
+    let row = [0u32; Network::LANES];
+    let bytes = [0u8; Network::MOST_NODES];
+    let mut c = [0u32; Network::MOST_LINKS];
+    let mut d = [row; Network::MOST_NODES];
+    let mut w = [row; Network::MOST_NODES];
+    let mut alts = [bytes; Network::MOST_NODES];
     in_room(
         net,
         a,
