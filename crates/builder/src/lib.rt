@@ -66,7 +66,8 @@ fn admits(nb: &[u32], n: u8, isos: &[u32; Network::MOST_TOPOLOGIES], i: u8, v: u
     ensures { λ r. ⌜ r ≡ wordAdmits (now (nb .entry)) n (getD (now (isos .entry)) (i - 1) 0) v ⌝ }
 {
     let at = (i - 1) as usize;
-    let iso = adding(isos[at], v);
+    let before = isos[at];
+    let iso = adding(before, v);
     topology_number(nb, n, iso) == 0
 }
 

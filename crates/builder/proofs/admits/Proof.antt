@@ -9,11 +9,11 @@ sub-at c = search needs
 cast-at : tie.Need-cast-at
 cast-at c = search needs
 
-mul-adding : tie.Need-mul-adding
-mul-adding c = search needs
+mul-before : tie.Need-mul-before
+mul-before c = search needs
 
-element-copy-out-adding : tie.Need-element-copy-out-adding
-element-copy-out-adding c = search needs
+element-copy-out-before : tie.Need-element-copy-out-before
+element-copy-out-before c = search needs
 
 adding-requires : tie.Need-adding-requires
 adding-requires c κs = search needs
@@ -30,8 +30,8 @@ admits-spec =
     (tie.spec
     sub-at
     cast-at
-    mul-adding
-    element-copy-out-adding
+    mul-before
+    element-copy-out-before
     adding-requires
     topology-number-requires
     returns)
