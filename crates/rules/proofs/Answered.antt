@@ -40,25 +40,6 @@ tolerated S (Node x) = (home S x, λ v l e. ap (home S) (sym (eqb-true x v e)))
 
 -- ---- what it accepts
 
-run-asked : (i : RunInput) (d : RunLent) → Bytes (i .file) → runEntry .verdict i d ≡ Accepted → (S : Set) × RunMeets S i d
-unfolding runEntry setOf
-run-asked i d small e =
-    let packet = then-second _ _ e in
-    let source = then-second _ _ packet in
-    let room = then-second _ _ source in
-    let known = packet-needed (headerOf (i .file)) _ (i .failure) (then-first _ _ packet) in (
-      setOf (i .file),
-      record {
-        file = accepted-file (i .file) small (then-first _ _ e);
-        source = known .place;
-        destination = known .destination;
-        failure = known .failure;
-        standing = source-needed (i .source) (i .failure) (then-first _ _ source);
-        tables = room-long (tablesLength (headerOf (i .file))) (d .tables) (then-first _ _ room);
-        trail = room-long (trailRoom (headerOf (i .file))) (d .trail) (then-second _ _ room);
-      },
-    )
-
 own-set : (S : Set) (i : RunInput) (d : RunLent) → RunMeets S i d → setOf (i .file) ≡ S
 own-set S i d M = its-set S (i .file) (M .file)
 
@@ -76,8 +57,26 @@ run-meets : (S : Set) (i : RunInput) (d : RunLent) → RunMeets S i d → runEnt
 run-meets S i d M = held-meets i d (subst (λ (T : Set). RunMeets T i d) (sym (own-set S i d M)) M)
 
 pub run-accepts : AcceptsExactly runEntry IsEnded (λ i. Bytes (i .file)) RunMeets
-unfolding runEntry
+unfolding runEntry setOf
 run-accepts = accepts runEntry IsEnded (λ i. Bytes (i .file)) RunMeets run-values (λ i d r e. (journeyOf (runOf i), run-is r (runOf i) e)) run-asked run-meets
+  where
+    run-asked : (i : RunInput) (d : RunLent) → Bytes (i .file) → runEntry .verdict i d ≡ Accepted → (S : Set) × RunMeets S i d
+    run-asked i d small e =
+        let packet = then-second _ _ e in
+        let source = then-second _ _ packet in
+        let room = then-second _ _ source in
+        let known = packet-needed (headerOf (i .file)) _ (i .failure) (then-first _ _ packet) in (
+          setOf (i .file),
+          record {
+            file = accepted-file (i .file) small (then-first _ _ e);
+            source = known .place;
+            destination = known .destination;
+            failure = known .failure;
+            standing = source-needed (i .source) (i .failure) (then-first _ _ source);
+            tables = room-long (tablesLength (headerOf (i .file))) (d .tables) (then-first _ _ room);
+            trail = room-long (trailRoom (headerOf (i .file))) (d .trail) (then-second _ _ room);
+          },
+        )
 
 -- ---- what it then answers and leaves
 
@@ -89,12 +88,6 @@ module _ (S : Set) (i : RunInput) (before after : RunLent) (r : RunAnswer) (P : 
   unfolding runOf
   rule = ap (λ (T : Set). runUnder T (faultOf (i .failure)) (i .source) (i .destination)) (own-set S i before M)
 
-  its-tables : after .tables ≡ laid (tableBytes S) (before .tables)
-  unfolding runEntry
-  its-tables =
-      ap (λ (d : RunLent). d .tables) (left runEntry i before after r P (run-meets S i before M))
-      ∙ ap (λ (T : Set). laid (tableBytes T) (before .tables)) (own-set S i before M)
-
   its-trail : after .trail ≡ laid (trail (i .source) made) (before .trail)
   unfolding runEntry
   its-trail =
@@ -105,32 +98,36 @@ module _ (S : Set) (i : RunInput) (before after : RunLent) (r : RunAnswer) (P : 
   unfolding runEntry
   its-answer = run-is r (runOf i) (told runEntry i before after r P (run-meets S i before M)) ∙ ap (λ (x : Run). ran.Ended (journeyOf x)) rule
 
-  -- what the entry `tables` leaves in the same room
-  same-tables : (answer : LengthAnswer) (lent : List ℕ) → Promise tablesEntry (i .file) (before .tables) answer lent → after .tables ≡ lent
-  unfolding tablesEntry
-  same-tables answer lent Q =
-      its-tables
-      ∙ ap (λ (T : Set). laid (tableBytes T) (before .tables)) (sym (own-set S i before M))
-      ∙ sym (left tablesEntry (i .file) (before .tables) lent answer Q (tables-meets S (i .file) (before .tables) (record { file = M .file; room = M .tables })))
-
-  by-steps : made ≡ run S (lentTables (S .net) (after .tables)) (up S (faultOf (i .failure))) (mostHops (S .net)) (packet (i .source) (i .destination) 0)
-  unfolding runUnder
-  by-steps =
-      let A = M .file .accepted in
-      sym (ap (λ (t : List ℕ). run S (lentTables (S .net) t) (up S (faultOf (i .failure))) (mostHops (S .net)) (packet (i .source) (i .destination) 0)) its-tables
-      ∙ run-same S A (up S (faultOf (i .failure))) (lentTables (S .net) (laid (tableBytes S) (before .tables))) (lent-agree S (before .tables)) (mostHops (S .net)) (packet (i .source) (i .destination) 0)
-      (starts S A (up S (faultOf (i .failure))) (i .source) (i .destination) (M .source) (M .destination)))
-
 pub run-gives : ThenGives runEntry RunMeets RunGives
+unfolding runEntry tablesEntry runUnder
 run-gives S i before after r P M =
     record {
       made = made S i before after r P M;
       rule = refl;
       answer = its-answer S i before after r P M;
       trail = subst (λ (t : List ℕ). Front (trail (i .source) (made S i before after r P M)) (before .trail) t) (sym (its-trail S i before after r P M)) (front-laid _ (before .trail));
-      tables = same-tables S i before after r P M;
-      steps = by-steps S i before after r P M;
+      tables = same-tables;
+      steps = by-steps;
     }
+  where
+    its-tables : after .tables ≡ laid (tableBytes S) (before .tables)
+    its-tables =
+        ap (λ (d : RunLent). d .tables) (left runEntry i before after r P (run-meets S i before M))
+        ∙ ap (λ (T : Set). laid (tableBytes T) (before .tables)) (own-set S i before M)
+
+    -- what the entry `tables` leaves in the same room
+    same-tables : (answer : LengthAnswer) (lent : List ℕ) → Promise tablesEntry (i .file) (before .tables) answer lent → after .tables ≡ lent
+    same-tables answer lent Q =
+        its-tables
+        ∙ ap (λ (T : Set). laid (tableBytes T) (before .tables)) (sym (own-set S i before M))
+        ∙ sym (left tablesEntry (i .file) (before .tables) lent answer Q (tables-meets S (i .file) (before .tables) (record { file = M .file; room = M .tables })))
+
+    by-steps : made S i before after r P M ≡ run S (lentTables (S .net) (after .tables)) (up S (faultOf (i .failure))) (mostHops (S .net)) (packet (i .source) (i .destination) 0)
+    by-steps =
+        let A = M .file .accepted in
+        sym (ap (λ (t : List ℕ). run S (lentTables (S .net) t) (up S (faultOf (i .failure))) (mostHops (S .net)) (packet (i .source) (i .destination) 0)) its-tables
+        ∙ run-same S A (up S (faultOf (i .failure))) (lentTables (S .net) (laid (tableBytes S) (before .tables))) (lent-agree S (before .tables)) (mostHops (S .net)) (packet (i .source) (i .destination) 0)
+        (starts S A (up S (faultOf (i .failure))) (i .source) (i .destination) (M .source) (M .destination)))
 
 pub delivered-by-run : DeliveredByRun
 unfolding hops trail

@@ -61,24 +61,6 @@ asked i lent e =
       room = room-long (fileLength (built (setOf (i .file)) (i .cap) .net)) lent (then-second _ _ fit);
     }
 
-build-asked : (i : BuildInput) (lent : List ℕ) → Bytes (i .file) → buildEntry .verdict i lent ≡ Accepted → (G : Set) × BuildMeets G i lent
-unfolding setOf
-build-asked i lent small e =
-    let a = asked i lent e in
-    let G : Set = setOf (i .file) in
-    let R = judged (i .file) (a .file) .rules in
-    let O = fitted-removable G (i .cap) (a .fit) in (
-      G,
-      record {
-        file = judged-file (i .file) small (a .file);
-        graph = a .graph;
-        cap = a .cap;
-        removable = O;
-        few = fits-needs G (i .cap) R O .0 (a .fit);
-        room = subst (λ (h : Network). fileLength h ≤ length lent) (built-net G (i .cap) (a .fit) R) (a .room);
-      },
-    )
-
 own-set : (G : Set) (i : BuildInput) (lent : List ℕ) → BuildMeets G i lent → setOf (i .file) ≡ G
 own-set G i lent M = file-set G (i .file) (M .file)
 
@@ -102,10 +84,27 @@ build-meets : (G : Set) (i : BuildInput) (lent : List ℕ) → BuildMeets G i le
 build-meets G i lent M = held-meets i lent (subst (λ (T : Set). BuildMeets T i lent) (sym (own-set G i lent M)) M)
 
 pub build-accepts : AcceptsExactly buildEntry IsLength (λ i. Bytes (i .file)) BuildMeets
-unfolding buildEntry
+unfolding buildEntry setOf
 build-accepts =
     accepts buildEntry IsLength (λ i. Bytes (i .file)) BuildMeets length-values
     (λ i d r e. (fileLength (builtFrom i .net), length-is r (fileLength (builtFrom i .net)) e)) build-asked build-meets
+  where
+    build-asked : (i : BuildInput) (lent : List ℕ) → Bytes (i .file) → buildEntry .verdict i lent ≡ Accepted → (G : Set) × BuildMeets G i lent
+    build-asked i lent small e =
+        let a = asked i lent e in
+        let G : Set = setOf (i .file) in
+        let R = judged (i .file) (a .file) .rules in
+        let O = fitted-removable G (i .cap) (a .fit) in (
+          G,
+          record {
+            file = judged-file (i .file) small (a .file);
+            graph = a .graph;
+            cap = a .cap;
+            removable = O;
+            few = fits-needs G (i .cap) R O .0 (a .fit);
+            room = subst (λ (h : Network). fileLength h ≤ length lent) (built-net G (i .cap) (a .fit) R) (a .room);
+          },
+        )
 
 -- ---- what it then answers and leaves
 

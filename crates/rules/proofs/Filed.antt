@@ -40,16 +40,6 @@ judged-file s small e = record { rules = judged s e .rules; bytes = judged s e .
 
 -- ---- read
 
-read-asked : (s : List ℕ) (d : Lists) → Bytes s → readEntry .verdict s d ≡ Accepted → (S : Set) × ReadMeets S s d
-unfolding readEntry
-read-asked s d small e = (
-  setOf s,
-  record {
-    file = judged-file s small (then-first _ _ e);
-    room = subst (λ (h : Network). LongLists h d) (sym (net-held s)) (lists-long 13 (headerOf s) d (then-second _ _ e));
-  },
-)
-
 read-meets : (S : Set) (s : List ℕ) (d : Lists) → ReadMeets S s d → readEntry .verdict s d ≡ Accepted
 unfolding readEntry
 read-meets S s d M =
@@ -58,6 +48,15 @@ read-meets S s d M =
 pub read-accepts : AcceptsExactly readEntry IsRead Bytes ReadMeets
 unfolding readEntry
 read-accepts = accepts readEntry IsRead Bytes ReadMeets read-values (λ s d r e. (headerOf s, read-is r (headerOf s) e)) read-asked read-meets
+  where
+    read-asked : (s : List ℕ) (d : Lists) → Bytes s → readEntry .verdict s d ≡ Accepted → (S : Set) × ReadMeets S s d
+    read-asked s d small e = (
+      setOf s,
+      record {
+        file = judged-file s small (then-first _ _ e);
+        room = subst (λ (h : Network). LongLists h d) (sym (net-held s)) (lists-long 13 (headerOf s) d (then-second _ _ e));
+      },
+    )
 
 pub read-gives : ThenGives readEntry ReadMeets ReadGives
 unfolding readEntry listsWith
@@ -95,16 +94,6 @@ encode-cut h d l = sym (encode-within (setWith h d)) ∙ ap encode (within-cut h
 cut-meets : (h : Network) (d : Lists) → LongLists h d → judge (encode (setWith h d)) ≡ Accepted → MeetsRules (cutTo h d)
 cut-meets h d l e = subst MeetsRules (set-of-encode (setWith h d) ∙ within-cut h d l) (judged (encode (setWith h d)) e .rules)
 
-write-asked : (i : WriteInput) (room : List ℕ) → Unit {0} → writeEntry .verdict i room ≡ Accepted → (S : Set) × WriteMeets S i room
-unfolding writeEntry cutTo
-write-asked i room fair e =
-    let rest = then-second _ _ e in
-    let l = lists-long 0 (i .net) (i .lists) (then-first _ _ rest) in
-    let R = cut-meets (i .net) (i .lists) l (then-first _ _ (then-second _ _ rest)) in (
-      cutTo (i .net) (i .lists),
-      record { limits = R .limits; lists = l; set = refl; rules = R; room = room-long (fileLength (i .net)) room (then-second _ _ (then-second _ _ rest)) },
-    )
-
 write-meets : (S : Set) (i : WriteInput) (room : List ℕ) → WriteMeets S i room → writeEntry .verdict i room ≡ Accepted
 unfolding writeEntry
 write-meets S i room M =
@@ -114,9 +103,18 @@ write-meets S i room M =
     ∙ room-ok (fileLength (i .net)) room (M .room)
 
 pub write-accepts : AcceptsExactly writeEntry IsLength (λ i. Unit {0}) WriteMeets
-unfolding writeEntry
+unfolding writeEntry cutTo
 write-accepts =
     accepts writeEntry IsLength (λ i. Unit {0}) WriteMeets length-values (λ i room r e. (fileLength (i .net), length-is r (fileLength (i .net)) e)) write-asked write-meets
+  where
+    write-asked : (i : WriteInput) (room : List ℕ) → Unit {0} → writeEntry .verdict i room ≡ Accepted → (S : Set) × WriteMeets S i room
+    write-asked i room fair e =
+        let rest = then-second _ _ e in
+        let l = lists-long 0 (i .net) (i .lists) (then-first _ _ rest) in
+        let R = cut-meets (i .net) (i .lists) l (then-first _ _ (then-second _ _ rest)) in (
+          cutTo (i .net) (i .lists),
+          record { limits = R .limits; lists = l; set = refl; rules = R; room = room-long (fileLength (i .net)) room (then-second _ _ (then-second _ _ rest)) },
+        )
 
 pub write-gives : ThenGives writeEntry WriteMeets WriteGives
 unfolding writeEntry cutTo

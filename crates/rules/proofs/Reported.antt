@@ -18,13 +18,6 @@ use Rattle.rules.proofs.Needs.{room-ok, room-long}
 use Rattle.rules.proofs.Tabled.{accepted-file, file-checked, its-set}
 use Rattle.rules.proofs.Fits.{report-longest}
 
-report-asked : (s lent : List ℕ) → Bytes s → reportEntry .verdict s lent ≡ Accepted → (S : Set) × ReportMeets S s lent
-unfolding reportEntry
-report-asked s lent small e = (
-  setOf s,
-  record { file = accepted-file s small (then-first _ _ e); room = room-long (length (reportText (setOf s))) lent (then-second _ _ e) },
-)
-
 report-meets : (S : Set) (s lent : List ℕ) → ReportMeets S s lent → reportEntry .verdict s lent ≡ Accepted
 unfolding reportEntry
 report-meets S s lent M =
@@ -36,6 +29,12 @@ pub report-accepts : AcceptsExactly reportEntry IsLength Bytes ReportMeets
 unfolding reportEntry
 report-accepts =
     accepts reportEntry IsLength Bytes ReportMeets length-values (λ s d r e. (length (reportText (setOf s)), length-is r (length (reportText (setOf s))) e)) report-asked report-meets
+  where
+    report-asked : (s lent : List ℕ) → Bytes s → reportEntry .verdict s lent ≡ Accepted → (S : Set) × ReportMeets S s lent
+    report-asked s lent small e = (
+      setOf s,
+      record { file = accepted-file s small (then-first _ _ e); room = room-long (length (reportText (setOf s))) lent (then-second _ _ e) },
+    )
 
 pub report-gives : ThenGives reportEntry ReportMeets ReportGives
 unfolding reportEntry

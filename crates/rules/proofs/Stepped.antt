@@ -81,28 +81,6 @@ module _ (S : Set) (tables : Tables) (on : ℕ → ℕ → Bool) (p : Packet) wh
 
 -- ---- the statements
 
-step-asked : (i : StepInput) (d : NothingLent) → Bytes (i .file) → stepEntry .verdict i d ≡ Accepted → (S : Set) × StepMeets S i d
-unfolding stepEntry lookupsOf setOf
-step-asked i d small e =
-    let set = then-second _ _ e in
-    let packet = then-second _ _ set in
-    let source = then-second _ _ packet in
-    let room = then-second _ _ source in
-    let known = packet-needed (headerOf (i .file)) (i .packet) (i .failure) (then-first _ _ packet) in (
-      setOf (i .file),
-      record {
-        file = judged-file (i .file) small (then-first _ _ e);
-        topologies = set-needed (headerOf (i .file)) (then-first _ _ set);
-        place = known .place;
-        destination = known .destination;
-        topology = known .topology;
-        failure = known .failure;
-        standing = source-needed (i .packet .place) (i .failure) (then-first _ _ source);
-        tables = room-long (tablesLength (headerOf (i .file))) (i .tables) (then-first _ _ room);
-        looks-up = looks-up (setOf (i .file)) (lentTables (headerOf (i .file)) (i .tables)) (up (setOf (i .file)) (faultOf (i .failure))) (i .packet) (refuse-zero _ 0 (then-second _ _ room));
-      },
-    )
-
 -- the set that is asked for is the one that the file holds
 own-set : (S : Set) (i : StepInput) (d : NothingLent) → StepMeets S i d → setOf (i .file) ≡ S
 own-set S i d M = file-set S (i .file) (M .file)
@@ -121,10 +99,31 @@ step-meets : (S : Set) (i : StepInput) (d : NothingLent) → StepMeets S i d →
 step-meets S i d M = held-meets i d (subst (λ (T : Set). StepMeets T i d) (sym (own-set S i d M)) M)
 
 pub step-accepts : AcceptsExactly stepEntry IsTaken (λ i. Bytes (i .file)) StepMeets
-unfolding stepEntry stepOf
+unfolding stepEntry stepOf lookupsOf setOf
 step-accepts =
     accepts stepEntry IsTaken (λ i. Bytes (i .file)) StepMeets step-values
     (λ i d r e. (step (setOf (i .file)) (lentTables (headerOf (i .file)) (i .tables)) (up (setOf (i .file)) (faultOf (i .failure))) (i .packet), step-is r _ e)) step-asked step-meets
+  where
+    step-asked : (i : StepInput) (d : NothingLent) → Bytes (i .file) → stepEntry .verdict i d ≡ Accepted → (S : Set) × StepMeets S i d
+    step-asked i d small e =
+        let set = then-second _ _ e in
+        let packet = then-second _ _ set in
+        let source = then-second _ _ packet in
+        let room = then-second _ _ source in
+        let known = packet-needed (headerOf (i .file)) (i .packet) (i .failure) (then-first _ _ packet) in (
+          setOf (i .file),
+          record {
+            file = judged-file (i .file) small (then-first _ _ e);
+            topologies = set-needed (headerOf (i .file)) (then-first _ _ set);
+            place = known .place;
+            destination = known .destination;
+            topology = known .topology;
+            failure = known .failure;
+            standing = source-needed (i .packet .place) (i .failure) (then-first _ _ source);
+            tables = room-long (tablesLength (headerOf (i .file))) (i .tables) (then-first _ _ room);
+            looks-up = looks-up (setOf (i .file)) (lentTables (headerOf (i .file)) (i .tables)) (up (setOf (i .file)) (faultOf (i .failure))) (i .packet) (refuse-zero _ 0 (then-second _ _ room));
+          },
+        )
 
 pub step-gives : ThenGives stepEntry StepMeets StepGives
 unfolding stepEntry stepOf setOf

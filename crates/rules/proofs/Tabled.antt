@@ -60,16 +60,6 @@ check-accepts =
 
 -- ---- tables
 
-tables-asked : (s lent : List ℕ) → Bytes s → tablesEntry .verdict s lent ≡ Accepted → (S : Set) × TablesMeet S s lent
-unfolding tablesEntry
-tables-asked s lent small e = (
-  setOf s,
-  record {
-    file = accepted-file s small (then-first _ _ e);
-    room = subst (λ (h : Network). tablesLength h ≤ length lent) (sym (net-held s)) (room-long (tablesLength (headerOf s)) lent (then-second _ _ e));
-  },
-)
-
 pub tables-meets : (S : Set) (s lent : List ℕ) → TablesMeet S s lent → tablesEntry .verdict s lent ≡ Accepted
 unfolding tablesEntry
 tables-meets S s lent M =
@@ -81,6 +71,15 @@ pub tables-accepts : AcceptsExactly tablesEntry IsLength Bytes TablesMeet
 unfolding tablesEntry
 tables-accepts =
     accepts tablesEntry IsLength Bytes TablesMeet length-values (λ s d r e. (tablesLength (headerOf s), length-is r (tablesLength (headerOf s)) e)) tables-asked tables-meets
+  where
+    tables-asked : (s lent : List ℕ) → Bytes s → tablesEntry .verdict s lent ≡ Accepted → (S : Set) × TablesMeet S s lent
+    tables-asked s lent small e = (
+      setOf s,
+      record {
+        file = accepted-file s small (then-first _ _ e);
+        room = subst (λ (h : Network). tablesLength h ≤ length lent) (sym (net-held s)) (room-long (tablesLength (headerOf s)) lent (then-second _ _ e));
+      },
+    )
 
 own-entry : (S : Set) (i u : ℕ) → nextHop S i u u ≡ u
 unfolding nextHop
