@@ -8,7 +8,6 @@ use native.Mathlib.Omega.{arith}
 use lib.ListN.{length}
 use Rattle.rules.specs.declared.Network.{Network}
 use Rattle.rules.specs.declared.Verdict.the-variants.{Accepted}
-use Rattle.rules.specs.declared.LengthAnswer.{LengthAnswer}
 use Rattle.rules.specs.declared.LengthAnswer.the-variants as long
 use Rattle.rules.specs.Basics.{laid}
 use Rattle.rules.specs.Limits.{fileLength}
@@ -29,7 +28,7 @@ use Rattle.rules.proofs.Placed.{built-by, built-topologies, built-net}
 
 -- ---- 9 and 10
 
-fit-needed : (G : Set) (cap : ℕ) → MeetsRules G → needFit G cap ≡ Accepted → fits G cap ≡ true
+pub fit-needed : (G : Set) (cap : ℕ) → MeetsRules G → needFit G cap ≡ Accepted → fits G cap ≡ true
 unfolding needFit
 fit-needed G cap R e = zero-exactly G cap R .0 (refuse-zero (buildNumber G cap) 0 e)
 

@@ -52,4 +52,5 @@ pub mod Reported
 pub mod Kept
 pub mod Numbered
 pub mod Values
+pub mod Refusing
 pub mod Shown

@@ -2,7 +2,7 @@
 use mathlib.Core.Path.{_≡_, refl, sym}
 use mathlib.Core.Bool.{Bool, true, false}
 use mathlib.Core.List.{List}
-use Prim.Native.Nat.{ℕ, suc, _≤_, _<_}
+use Prim.Native.Nat.{ℕ, suc, _≤_}
 use native.Mathlib.Omega.{arith}
 use lib.Dec.{eqb, leb}
 use lib.ListN.{length}
@@ -17,6 +17,7 @@ use Rattle.rules.specs.Forwarding.{faultOf, failed}
 use Rattle.rules.specs.Judgement.{needSet, needGraph, needCap, needFailure, needPacket, needSource, sourceNumber, needRoom}
 use Rattle.rules.specs.Entries.{Lists, needLists}
 use Rattle.rules.specs.Demands.{LongLists, InRange, Standing}
+use Rattle.rules.specs.Refusals.{Known}
 use Rattle.rules.proofs.Choices.{need-ok, need-yes, need-le, need-lt, numbers, refuse-ok, refuse-zero}
 
 -- ---- lists and room
@@ -97,13 +98,6 @@ unfolding needFailure
 range-in h Nothing l = refl
 range-in h (Link x) l = need-lt x (h .m) 11 0 0 l refl
 range-in h (Node v) l = need-lt v (h .n) 11 0 0 l refl
-
--- a packet and a failure within a set's counts
-pub record Known (h : Network) (p : Packet) (f : Failure) : Type 0 where
-  pub place : p .place < h .n
-  pub destination : p .destination < h .n
-  pub topology : p .topology ≤ h .k
-  pub failure : InRange h f
 
 pub packet-needed : (h : Network) (p : Packet) (f : Failure) → needPacket h p f ≡ Accepted → Known h p f
 unfolding needPacket

@@ -3,8 +3,10 @@ use mathlib.Core.Path.{refl}
 use Rattle.rules.specs.File.{headerOf}
 use Rattle.rules.specs.Entries.{readEntry, writeEntry, checkEntry, buildEntry, tablesEntry, stepOf, stepEntry, runOf, runEntry, reportEntry}
 use Rattle.rules.specs.Demands.{noLengths, itsLength, listLengths, runLengths, Demand1, Demand2, Demand3}
+use Rattle.rules.specs.Refusals.{RefusalsSaySo}
 use Rattle.rules.proofs.Determined.{takes-every-input, read-one, length-one, verdict-one, step-one, run-one, read-says, length-says, verdict-says, step-says, run-says}
 use Rattle.rules.proofs.Numbered.{read-numbered, write-numbered, check-numbered, build-numbered, tables-numbered, step-numbered, run-numbered, report-numbered}
+use Rattle.rules.proofs.Refusing.{refusals-say-so}
 use Rattle.rules.proofs.Kept.{read-kept, write-kept, build-kept, tables-kept, run-kept, report-kept}
 use Rattle.rules.proofs.LaidOut.{files-laid-out}
 use Rattle.rules.proofs.Filed.{read-accepts, read-gives, write-accepts, write-gives}
@@ -43,6 +45,10 @@ demand-1 =
       run = takes-every-input runEntry runLengths (λ v i d. run-says v (runOf i)) run-one run-kept run-numbered;
       report = takes-every-input reportEntry itsLength (λ v s d. length-says v _) length-one report-kept report-numbered;
     }
+
+-- what a refusal's number and place say is so
+pub demand-1-refusals : RefusalsSaySo
+demand-1-refusals = refusals-say-so
 
 pub demand-2 : Demand2
 demand-2 =

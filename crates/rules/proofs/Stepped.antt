@@ -69,7 +69,7 @@ module _ (S : Set) (tables : Tables) (on : ℕ → ℕ → Bool) (p : Packet) wh
         around = λ ne down zero back. t .around (ne-eqb (p .place) (p .destination) ne) down (eq-eqb (p .topology) 0 zero) (eq-eqb w v back);
       }
 
-  looked-up : LooksUp S tables on p → lookupNumber S tables on p ≡ 0
+  pub looked-up : LooksUp S tables on p → lookupNumber S tables on p ≡ 0
   unfolding lookupNumber towardNumber changeNumber alternateNumber
   looked-up l =
       passed (eqb (p .place) (p .destination)) (neighbours S (p .place) v) (on (p .place) v) (eqb (p .topology) 0) (neighbours S (p .place) w) (eqb w v) (neighbours S (p .place) (tables .alternate (p .place) v))

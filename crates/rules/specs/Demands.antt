@@ -1,4 +1,5 @@
--- Demands 1 to 3 as statements over the definitions. What is shown of them stands in proofs/, under the names that are given here.
+-- Demands 1 to 3 as statements over the definitions. What is shown of them stands in proofs/, under the names that are given here. What each refusal number
+-- says, row by row of 01's table, stands in `Refusals`.
 use mathlib.Core.Path.{_≡_}
 use mathlib.Core.Logic.{_↔_, _⊎_}
 use mathlib.Core.Bool.{Bool, true, false, not, _&&_}

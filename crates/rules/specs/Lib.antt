@@ -11,4 +11,5 @@ pub mod Report
 pub mod Answers
 pub mod Entries
 pub mod Demands
+pub mod Refusals
 pub mod Examples
