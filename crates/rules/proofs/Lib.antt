@@ -50,7 +50,7 @@ pub mod Fits
 pub mod Answered
 pub mod Reported
 pub mod Kept
+pub mod Refusing
 pub mod Numbered
 pub mod Values
-pub mod Refusing
 pub mod Shown

@@ -1,145 +1,23 @@
 -- A refusal's number is one of 01's fifteen, and its place lies within the longest file: of every entry, whatever it is given and lent.
 use mathlib.Core.Path.{_≡_, refl}
-use mathlib.Core.Bool.{Bool, true, false, not, _||_}
 use mathlib.Core.List.{List}
-use Prim.Native.Nat.{ℕ, zero, suc, _≤_, _<_}
+use Prim.Native.Nat.{ℕ, suc, _≤_, _<_}
 use native.Mathlib.Nat.{suc-mul, mul-le-mul-right}
 use native.Mathlib.Omega.{arith}
-use lib.Dec.{eqb}
 use Rattle.rules.specs.declared.Network.{Network}
-use Rattle.rules.specs.declared.Packet.{Packet}
-use Rattle.rules.specs.declared.Failure.{Failure}
-use Rattle.rules.specs.declared.Failure.the-variants.{Nothing, Link, Node}
 use Rattle.rules.specs.declared.Verdict.{Verdict}
-use Rattle.rules.specs.declared.Verdict.the-variants.{Accepted, Refused}
-use Rattle.rules.specs.Basics.{if_then_else_, need}
-use Rattle.rules.specs.Limits.{needCounts, homeRecords, rowWeights, rowLength, linkPlace, homePlace, rowPlace, fileLength, longest}
+use Rattle.rules.specs.Basics.{need}
+use Rattle.rules.specs.Limits.{homeRecords, rowWeights, rowLength, linkPlace, homePlace, rowPlace, fileLength, longest}
 use Rattle.rules.specs.File.{Set, headerOf, setOf}
-use Rattle.rules.specs.Isolation.{topologyNumber}
-use Rattle.rules.specs.Forwarding.{Tables, alternateNumber, changeNumber, towardNumber, lookupNumber}
-use Rattle.rules.specs.Building.{buildNumber}
-use Rattle.rules.specs.Judgement.{refuse, andThen, inTurn, needMark, headerNumber, linkNumber, homeNumber, rowNumber, records, judge, needSet, needGraph, topologies, check, needFailure, needPacket, needCap, needFit, sourceNumber, needSource, needRoom}
-use Rattle.rules.specs.Entries.{NothingLent, Lists, needLists, readEntry, WriteInput, writeEntry, checkEntry, BuildInput, buildEntry, tablesEntry, StepInput, lookupsOf, stepEntry, RunInput, RunLent, runEntry, reportEntry}
-use Rattle.rules.specs.Demands.{WithinLimits, Numbered}
-use Rattle.rules.proofs.Choices.{refuse-zero}
-use Rattle.rules.proofs.Records.{header-meets}
-use Rattle.rules.proofs.Accepted.{judged, length-bound}
+use Rattle.rules.specs.Entries.{NothingLent, Lists, readEntry, WriteInput, writeEntry, checkEntry, BuildInput, buildEntry, tablesEntry, StepInput, stepEntry, RunInput, RunLent, runEntry, reportEntry}
+use Rattle.rules.specs.Demands.{WithinLimits, InTable, Numbered}
+use Rattle.rules.specs.Refusals.{RecordFault, link-mark, home-mark, row-mark, link-ends, link-weight, row-weight, home-wrong, row-topology, FileFault, under, other-length, header-mark, counts, in-record, TopologyFault, backbone-apart, too-few, ReadFault, WriteFault, CheckFault, BuildFault, TablesFault, StepFault, RunFault, ReportFault}
+use Rattle.rules.proofs.Accepted.{length-bound}
+use Rattle.rules.proofs.Refusing.{Says, read-refuses, write-refuses, check-refuses, build-refuses, tables-refuses, step-refuses, run-refuses, report-refuses}
 
 pub longest-is : longest .file ≡ 9192
 unfolding longest fileLength rowPlace homePlace linkPlace homeRecords rowLength rowWeights need
 longest-is = refl
-
--- ---- verdicts in order
-
-accepted-numbered : Numbered Accepted
-accepted-numbered number place e = let z : _≡_ {A = ℕ} 0 1 = cc in absurd (omega arith)
-
-refuse-numbered : (number place : ℕ) → number ≤ 15 → place < longest .file → Numbered (refuse number place)
-unfolding refuse
-refuse-numbered zero place few l = accepted-numbered
-refuse-numbered (suc number) place few l = λ n p e.
-    let x : suc number ≡ n = cc in
-    let y : place ≡ p = cc in
-    record { low = omega arith; high = omega arith; inside = omega arith }
-
--- a refusal of the whole input
-front-numbered : (number : ℕ) → number ≤ 15 → Numbered (refuse number 0)
-front-numbered number few = refuse-numbered number 0 few (omega (arith, longest-is))
-
-then-numbered : (v w : Verdict) → Numbered v → (v ≡ Accepted → Numbered w) → Numbered (andThen v w)
-unfolding andThen
-then-numbered Accepted w f g = g refl
-then-numbered (Refused number place) w f g = f
-
-turn-numbered : (f : ℕ → Verdict) (n : ℕ) → ((i : ℕ) → i < n → Numbered (f i)) → Numbered (inTurn f n)
-unfolding inTurn
-turn-numbered f zero h = accepted-numbered
-turn-numbered f (suc n) h = then-numbered (inTurn f n) (f n) (turn-numbered f n (λ i l. h i (omega arith))) (λ e. h n (omega arith))
-
--- ---- numbers
-
-need-few : (t : Bool) (number rest : ℕ) → number ≤ 15 → rest ≤ 15 → need t number rest ≤ 15
-unfolding need
-need-few true number rest a b = b
-need-few false number rest a b = a
-
-if-few : (t : Bool) (x y : ℕ) → x ≤ 15 → y ≤ 15 → (if t then x else y) ≤ 15
-unfolding if_then_else_
-if-few true x y a b = a
-if-few false x y a b = b
-
-mark-few : (s : List ℕ) (at x y rest : ℕ) → rest ≤ 15 → needMark s at x y rest ≤ 15
-unfolding needMark
-mark-few s at x y rest l = need-few _ 2 _ (omega arith) (need-few _ 2 rest (omega arith) l)
-
-counts-few : (h : Network) (rest : ℕ) → rest ≤ 15 → needCounts h rest ≤ 15
-unfolding needCounts
-counts-few h rest l = three _ _ (three _ _ (three _ _ (three _ _ (three _ _ (three _ _ (three _ _ (three _ rest l)))))))
-  where
-    three : (t : Bool) (x : ℕ) → x ≤ 15 → need t 3 x ≤ 15
-    three t x g = need-few t 3 x (omega arith) g
-
-header-few : (s : List ℕ) → headerNumber s ≤ 15
-unfolding headerNumber
-header-few s =
-    need-few _ 1 _ (omega arith)
-    (mark-few s 0 _ _ _ (counts-few (headerOf s) _ (need-few _ 1 0 (omega arith) (omega arith))))
-
-link-few : (s : List ℕ) (h : Network) (l : ℕ) → linkNumber s h l ≤ 15
-unfolding linkNumber
-link-few s h l =
-    mark-few s _ _ _ _
-    (need-few _ 4 _ (omega arith)
-    (need-few _ 4 _ (omega arith)
-    (need-few _ 4 _ (omega arith)
-    (need-few _ 5 _ (omega arith) (need-few _ 5 0 (omega arith) (omega arith))))))
-
-home-few : (s : List ℕ) (h : Network) (v : ℕ) → homeNumber s h v ≤ 15
-unfolding homeNumber
-home-few s h v =
-    mark-few s _ _ _ _
-    (need-few _ 6 _ (omega arith) (need-few _ 6 _ (omega arith) (need-few _ 6 0 (omega arith) (omega arith))))
-
-row-few : (s : List ℕ) (h : Network) (j : ℕ) → rowNumber s h j ≤ 15
-unfolding rowNumber
-row-few s h j = mark-few s _ _ _ _ (need-few _ 6 _ (omega arith) (need-few _ 5 0 (omega arith) (omega arith)))
-
-topology-few : (S : Set) (i : ℕ) → topologyNumber S i ≤ 15
-unfolding topologyNumber
-topology-few S i = need-few _ 7 _ (omega arith) (need-few _ 8 0 (omega arith) (omega arith))
-
-failure-few : (h : Network) (f : Failure) → needFailure h f 0 ≤ 15
-unfolding needFailure
-failure-few h Nothing = omega arith
-failure-few h (Link l) = need-few _ 11 0 (omega arith) (omega arith)
-failure-few h (Node v) = need-few _ 11 0 (omega arith) (omega arith)
-
-source-few : (u : ℕ) (f : Failure) → sourceNumber u f ≤ 15
-unfolding sourceNumber
-source-few u Nothing = omega arith
-source-few u (Link l) = omega arith
-source-few u (Node v) = if-few (eqb v u) 12 0 (omega arith) (omega arith)
-
-build-few : (G : Set) (cap : ℕ) → buildNumber G cap ≤ 15
-unfolding buildNumber
-build-few G cap = need-few _ 9 _ (omega arith) (need-few _ 10 0 (omega arith) (omega arith))
-
-module _ (S : Set) (tables : Tables) (on : ℕ → ℕ → Bool) (p : Packet) where
-  alternate-few : (v w : ℕ) → alternateNumber S tables p v w ≤ 15
-  unfolding alternateNumber
-  alternate-few v w = if-few (eqb w v) _ 0 (need-few _ 15 0 (omega arith) (omega arith)) (omega arith)
-
-  change-few : (v w : ℕ) → changeNumber S tables p v w ≤ 15
-  unfolding changeNumber
-  change-few v w = need-few _ 15 _ (omega arith) (alternate-few v w)
-
-  toward-few : (v : ℕ) → towardNumber S tables on p v ≤ 15
-  unfolding towardNumber
-  toward-few v = need-few _ 15 _ (omega arith) (if-few (on (p .place) v || not (eqb (p .topology) 0)) 0 _ (omega arith) (change-few v _))
-
-  lookup-few : lookupNumber S tables on p ≤ 15
-  unfolding lookupNumber
-  lookup-few = if-few (eqb (p .place) (p .destination)) 0 _ (omega arith) (toward-few _)
 
 -- ---- places
 
@@ -168,115 +46,105 @@ module _ (h : Network) (w : WithinLimits h) where
       within : rowPlace h j < fileLength h
       within = omega (arith, suc-mul j (rowLength h), mul-le-mul-right {m = suc j} {n = h .k} (rowLength h) p)
 
--- ---- parts of the order
+-- ---- every row of the table
 
-records-numbered : (s : List ℕ) (h : Network) → WithinLimits h → Numbered (records s h)
-unfolding records
-records-numbered s h w =
-    then-numbered _ _ (turn-numbered _ (h .m) (λ l p. refuse-numbered (linkNumber s h l) (linkPlace l) (link-few s h l) (link-inside h w l p)))
-    (λ e. then-numbered _ _ (turn-numbered _ (homeRecords h) (λ v p. refuse-numbered (homeNumber s h v) (homePlace h v) (home-few s h v) (home-inside h w v p)))
-    (λ d. turn-numbered _ (h .k) (λ j p. refuse-numbered (rowNumber s h j) (rowPlace h j) (row-few s h j) (row-inside h w j p))))
+-- a number of the whole input
+whole : (number : ℕ) → 1 ≤ number → number ≤ 15 → InTable number 0
+whole number low high = record { low = low; high = high; inside = omega (arith, longest-is) }
 
-judge-numbered : (s : List ℕ) → Numbered (judge s)
-unfolding judge
-judge-numbered s =
-    then-numbered (refuse (headerNumber s) 0) (records s (headerOf s)) (front-numbered (headerNumber s) (header-few s))
-    (λ e. records-numbered s (headerOf s) (header-meets s (refuse-zero (headerNumber s) 0 e) .limits))
+record-listed : (s : List ℕ) → WithinLimits (headerOf s) → (number place : ℕ) → RecordFault s number place → InTable number place
+record-listed s w number place (link-mark l b f) = record { low = omega arith; high = omega arith; inside = link-inside (headerOf s) w l b }
+record-listed s w number place (home-mark v b f) = record { low = omega arith; high = omega arith; inside = home-inside (headerOf s) w v b }
+record-listed s w number place (row-mark j b f) = record { low = omega arith; high = omega arith; inside = row-inside (headerOf s) w j b }
+record-listed s w number place (link-ends l b f) = record { low = omega arith; high = omega arith; inside = link-inside (headerOf s) w l b }
+record-listed s w number place (link-weight l b f) = record { low = omega arith; high = omega arith; inside = link-inside (headerOf s) w l b }
+record-listed s w number place (row-weight j b f) = record { low = omega arith; high = omega arith; inside = row-inside (headerOf s) w j b }
+record-listed s w number place (home-wrong v b f) = record { low = omega arith; high = omega arith; inside = home-inside (headerOf s) w v b }
+record-listed s w number place (row-topology j b f) = record { low = omega arith; high = omega arith; inside = row-inside (headerOf s) w j b }
 
-set-numbered : (h : Network) → Numbered (needSet h)
-unfolding needSet
-set-numbered h = front-numbered _ (need-few _ 13 0 (omega arith) (omega arith))
+file-listed : (s : List ℕ) (number place : ℕ) → FileFault s number place → InTable number place
+file-listed s number place (under f) = whole 1 (omega arith) (omega arith)
+file-listed s number place (other-length f) = whole 1 (omega arith) (omega arith)
+file-listed s number place (header-mark f) = whole 2 (omega arith) (omega arith)
+file-listed s number place (counts f) = whole 3 (omega arith) (omega arith)
+file-listed s number place (in-record w f) = record-listed s w number place f
 
-graph-numbered : (h : Network) → Numbered (needGraph h)
-unfolding needGraph
-graph-numbered h = front-numbered _ (need-few _ 13 0 (omega arith) (omega arith))
+topology-listed : (S : Set) → S .net .k ≤ 32 → (number place : ℕ) → TopologyFault S number place → InTable number place
+topology-listed S k number place (backbone-apart i one high f) = record { low = omega arith; high = omega arith; inside = omega (arith, longest-is) }
+topology-listed S k number place (too-few i v one high l e f) = record { low = omega arith; high = omega arith; inside = omega (arith, longest-is) }
 
-topologies-numbered : (S : Set) → S .net .k ≤ 32 → Numbered (topologies S)
-unfolding topologies
-topologies-numbered S k =
-    turn-numbered _ (S .net .k) (λ j l. refuse-numbered (topologyNumber S (suc j)) (suc j) (topology-few S (suc j)) (omega (arith, longest-is)))
-
-set-checked-numbered : (s : List ℕ) → Numbered (check s)
-unfolding check
-set-checked-numbered s =
-    then-numbered (judge s) _ (judge-numbered s)
-    (λ e. then-numbered (needSet (headerOf s)) (topologies (setOf s)) (set-numbered (headerOf s))
-    (λ d. topologies-numbered (setOf s) (judged s e .rules .limits .topologies .0)))
-
-packet-numbered : (h : Network) (p : Packet) (f : Failure) → Numbered (needPacket h p f)
-unfolding needPacket
-packet-numbered h p f =
-    front-numbered _
-    (need-few _ 11 _ (omega arith) (need-few _ 11 _ (omega arith) (need-few _ 11 _ (omega arith) (failure-few h f))))
-
-cap-numbered : (cap : ℕ) → Numbered (needCap cap)
-unfolding needCap
-cap-numbered cap = front-numbered _ (need-few _ 11 _ (omega arith) (need-few _ 11 0 (omega arith) (omega arith)))
-
-fit-numbered : (G : Set) (cap : ℕ) → Numbered (needFit G cap)
-unfolding needFit
-fit-numbered G cap = front-numbered (buildNumber G cap) (build-few G cap)
-
-source-numbered : (u : ℕ) (f : Failure) → Numbered (needSource u f)
-unfolding needSource
-source-numbered u f = front-numbered (sourceNumber u f) (source-few u f)
-
-room-numbered : (long : ℕ) (lent : List ℕ) → Numbered (needRoom long lent)
-unfolding needRoom
-room-numbered long lent = front-numbered _ (need-few _ 14 0 (omega arith) (omega arith))
-
-lists-numbered : (number : ℕ) (h : Network) (d : Lists) → number ≤ 15 → Numbered (needLists number h d)
-unfolding needLists
-lists-numbered number h d l =
-    front-numbered _
-    (need-few _ number _ l (need-few _ number _ l (need-few _ number _ l (need-few _ number _ l (need-few _ number 0 l (omega arith))))))
+check-listed : (s : List ℕ) (number place : ℕ) → CheckFault s number place → InTable number place
+check-listed s number place (CheckFault.file f) = file-listed s number place f
+check-listed s number place (CheckFault.graph f) = whole 13 (omega arith) (omega arith)
+check-listed s number place (CheckFault.topology R f) = topology-listed (setOf s) (R .limits .topologies .0) number place f
 
 -- ---- the entries
 
+-- what a verdict says lies in the table
+numbered : (v : Verdict) (P : ℕ → ℕ → Type 0) → Says v P → ((number place : ℕ) → P number place → InTable number place) → Numbered v
+numbered v P f g number place e = g number place (f number place e)
+
 pub read-numbered : (s : List ℕ) (before : Lists) → Numbered (readEntry .verdict s before)
-unfolding readEntry
-read-numbered s before = then-numbered (judge s) _ (judge-numbered s) (λ e. lists-numbered 14 (headerOf s) before (omega arith))
+read-numbered s before = numbered _ (ReadFault s before) (read-refuses s before) listed
+  where
+    listed : (number place : ℕ) → ReadFault s before number place → InTable number place
+    listed number place (ReadFault.file f) = file-listed s number place f
+    listed number place (ReadFault.room f) = whole 14 (omega arith) (omega arith)
 
 pub write-numbered : (i : WriteInput) (before : List ℕ) → Numbered (writeEntry .verdict i before)
-unfolding writeEntry
-write-numbered i before =
-    then-numbered _ _ (front-numbered _ (counts-few (i .net) 0 (omega arith)))
-    (λ a. then-numbered _ _ (lists-numbered 1 (i .net) (i .lists) (omega arith))
-    (λ b. then-numbered _ _ (judge-numbered _) (λ c. room-numbered (fileLength (i .net)) before)))
+write-numbered i before = numbered _ (WriteFault i before) (write-refuses i before) listed
+  where
+    listed : (number place : ℕ) → WriteFault i before number place → InTable number place
+    listed number place (WriteFault.counts f) = whole 3 (omega arith) (omega arith)
+    listed number place (WriteFault.lists f) = whole 1 (omega arith) (omega arith)
+    listed number place (WriteFault.file f) = file-listed _ number place f
+    listed number place (WriteFault.room f) = whole 14 (omega arith) (omega arith)
 
 pub check-numbered : (s : List ℕ) (before : NothingLent) → Numbered (checkEntry .verdict s before)
-unfolding checkEntry
-check-numbered s before = set-checked-numbered s
+check-numbered s before = numbered _ (CheckFault s) (check-refuses s before) (check-listed s)
 
 pub build-numbered : (i : BuildInput) (before : List ℕ) → Numbered (buildEntry .verdict i before)
-unfolding buildEntry
-build-numbered i before =
-    then-numbered _ _ (judge-numbered (i .file))
-    (λ a. then-numbered _ _ (graph-numbered (headerOf (i .file)))
-    (λ b. then-numbered _ _ (cap-numbered (i .cap))
-    (λ c. then-numbered _ _ (fit-numbered (setOf (i .file)) (i .cap)) (λ d. room-numbered _ before))))
+build-numbered i before = numbered _ (BuildFault i before) (build-refuses i before) listed
+  where
+    listed : (number place : ℕ) → BuildFault i before number place → InTable number place
+    listed number place (BuildFault.file f) = file-listed (i .file) number place f
+    listed number place (BuildFault.set f) = whole 13 (omega arith) (omega arith)
+    listed number place (BuildFault.cap f) = whole 11 (omega arith) (omega arith)
+    listed number place (BuildFault.nine f) = whole 9 (omega arith) (omega arith)
+    listed number place (BuildFault.ten f) = whole 10 (omega arith) (omega arith)
+    listed number place (BuildFault.room f) = whole 14 (omega arith) (omega arith)
 
 pub tables-numbered : (s before : List ℕ) → Numbered (tablesEntry .verdict s before)
-unfolding tablesEntry
-tables-numbered s before = then-numbered (check s) _ (set-checked-numbered s) (λ e. room-numbered _ before)
+tables-numbered s before = numbered _ (TablesFault s before) (tables-refuses s before) listed
+  where
+    listed : (number place : ℕ) → TablesFault s before number place → InTable number place
+    listed number place (TablesFault.check f) = check-listed s number place f
+    listed number place (TablesFault.room f) = whole 14 (omega arith) (omega arith)
 
 pub step-numbered : (i : StepInput) (before : NothingLent) → Numbered (stepEntry .verdict i before)
-unfolding stepEntry lookupsOf
-step-numbered i before =
-    then-numbered _ _ (judge-numbered (i .file))
-    (λ a. then-numbered _ _ (set-numbered (headerOf (i .file)))
-    (λ b. then-numbered _ _ (packet-numbered (headerOf (i .file)) (i .packet) (i .failure))
-    (λ c. then-numbered _ _ (source-numbered (i .packet .place) (i .failure))
-    (λ d. then-numbered _ _ (room-numbered _ (i .tables)) (λ e. front-numbered _ (lookup-few _ _ _ (i .packet)))))))
+step-numbered i before = numbered _ (StepFault i) (step-refuses i before) listed
+  where
+    listed : (number place : ℕ) → StepFault i number place → InTable number place
+    listed number place (StepFault.file f) = file-listed (i .file) number place f
+    listed number place (StepFault.graph f) = whole 13 (omega arith) (omega arith)
+    listed number place (StepFault.range f) = whole 11 (omega arith) (omega arith)
+    listed number place (StepFault.stopped f) = whole 12 (omega arith) (omega arith)
+    listed number place (StepFault.room f) = whole 14 (omega arith) (omega arith)
+    listed number place (StepFault.lookup f) = whole 15 (omega arith) (omega arith)
 
 pub run-numbered : (i : RunInput) (before : RunLent) → Numbered (runEntry .verdict i before)
-unfolding runEntry
-run-numbered i before =
-    then-numbered _ _ (set-checked-numbered (i .file))
-    (λ a. then-numbered _ _ (packet-numbered (headerOf (i .file)) _ (i .failure))
-    (λ b. then-numbered _ _ (source-numbered (i .source) (i .failure))
-    (λ c. then-numbered _ _ (room-numbered _ (before .tables)) (λ d. room-numbered _ (before .trail)))))
+run-numbered i before = numbered _ (RunFault i before) (run-refuses i before) listed
+  where
+    listed : (number place : ℕ) → RunFault i before number place → InTable number place
+    listed number place (RunFault.check f) = check-listed (i .file) number place f
+    listed number place (RunFault.range f) = whole 11 (omega arith) (omega arith)
+    listed number place (RunFault.stopped f) = whole 12 (omega arith) (omega arith)
+    listed number place (RunFault.tables f) = whole 14 (omega arith) (omega arith)
+    listed number place (RunFault.trail f) = whole 14 (omega arith) (omega arith)
 
 pub report-numbered : (s before : List ℕ) → Numbered (reportEntry .verdict s before)
-unfolding reportEntry
-report-numbered s before = then-numbered (check s) _ (set-checked-numbered s) (λ e. room-numbered _ before)
+report-numbered s before = numbered _ (ReportFault s before) (report-refuses s before) listed
+  where
+    listed : (number place : ℕ) → ReportFault s before number place → InTable number place
+    listed number place (ReportFault.check f) = check-listed s number place f
+    listed number place (ReportFault.room f) = whole 14 (omega arith) (omega arith)

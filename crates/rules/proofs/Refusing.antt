@@ -22,12 +22,12 @@ use Rattle.rules.specs.Forwarding.{Tables, faultOf, up, lentTables, pack
 use Rattle.rules.specs.Building.{fits, built, spared, buildNumber}
 use Rattle.rules.specs.Judgement.{refuse, andThen, inTurn, needMark, headerNumber, rises, linkNumber, homeNumber, rowWeightFits, rowNumber, records, judge, needSet, needGraph, topologies, check, needFailure, needPacket, needCap, needFit, sourceNumber, needSource, needRoom}
 use Rattle.rules.specs.Report.{reportText}
-use Rattle.rules.specs.Entries.{Entry, Lists, needLists, readEntry, setWith, writeEntry, checkEntry, builtFrom, buildEntry, tablesEntry, lookupsOf, stepEntry, runEntry, reportEntry}
+use Rattle.rules.specs.Entries.{Entry, NothingLent, Lists, needLists, readEntry, WriteInput, setWith, writeEntry, checkEntry, BuildInput, builtFrom, buildEntry, tablesEntry, StepInput, lookupsOf, stepEntry, RunInput, RunLent, runEntry, reportEntry}
 use Rattle.rules.specs.Demands.{WithinLimits, MeetsRules, LongLists, InRange, Standing, LooksUp, Removable, withTopologies, topologiesNeeded}
-use Rattle.rules.specs.Refusals.{Known, EndsInOrder, RowFits, FileFault, under, longer, header-mark, link-mark, home-mark, row-mark, counts, link-ends, link-weight, row-weight, home-wrong, row-topology, TopologyFault, backbone-apart, too-few, ReadFault, WriteFault, CheckFault, BuildFault, TablesFault, StepFault, RunFault, ReportFault, SaysSo, RefusalsSaySo}
-use Rattle.rules.proofs.Choices.{clash, true-of, and-of, and-right, or-left, or-right}
+use Rattle.rules.specs.Refusals.{Known, EndsInOrder, RowFits, RecordFault, link-mark, home-mark, row-mark, link-ends, link-weight, row-weight, home-wrong, row-topology, FileFault, under, other-length, header-mark, counts, in-record, TopologyFault, backbone-apart, too-few, ReadFault, WriteFault, CheckFault, BuildFault, TablesFault, StepFault, RunFault, ReportFault, SaysSo, RefusalsSaySo}
+use Rattle.rules.proofs.Choices.{clash, true-of, and-of, and-right, or-left, or-right, refuse-zero}
 use Rattle.rules.proofs.Numbers.{all-of, of-two}
-use Rattle.rules.proofs.Records.{after-of}
+use Rattle.rules.proofs.Records.{header-meets, after-of}
 use Rattle.rules.proofs.Homes.{backbone-node}
 use Rattle.rules.proofs.Connected.{joined-connected}
 use Rattle.rules.proofs.Accepted.{judged}
@@ -40,7 +40,7 @@ use Rattle.rules.proofs.Stepped.{looked-up}
 -- ---- verdicts in order
 
 -- what a verdict refuses by is so
-abbrev Says : Verdict → (ℕ → ℕ → Type 0) → Type 0
+abbrev pub Says : Verdict → (ℕ → ℕ → Type 0) → Type 0
 Says v P = (number place : ℕ) → v ≡ Refused number place → P number place
 
 -- what a number says is so; 0 says nothing
@@ -68,6 +68,10 @@ module _ (P : ℕ → ℕ → Type 0) where
   unfolding inTurn
   turn-says f zero h = accepted-says
   turn-says f (suc n) h = then-says (inTurn f n) (f n) (turn-says f n (λ i l. h i (omega arith))) (λ e. h n (omega arith))
+
+  -- what one verdict says in the words of another
+  says-map : (Q : ℕ → ℕ → Type 0) (v : Verdict) → ((number place : ℕ) → Q number place → P number place) → Says v Q → Says v P
+  says-map Q v f g = λ number place e. f number place (g number place e)
 
 module _ (P : ℕ → Type 0) where
   nothing-told : Tells 0 P
@@ -109,7 +113,7 @@ module _ (s : List ℕ) where
       need-tells P (leb headerLength (length s)) 1 _ (λ e. under (leb-false headerLength (length s) e))
       (mark-tells 0 0x4E 0x57 _ P header-mark
       (counts-fail h _ P counts
-      (need-tells P (eqb (length s) (fileLength h)) 1 0 (λ e. longer (eqb-false _ _ e)) (nothing-told P))))
+      (need-tells P (eqb (length s) (fileLength h)) 1 0 (λ e. other-length (eqb-false _ _ e)) (nothing-told P))))
 
   -- a link that rises after the one before it
   rises-of : (l : ℕ) → EndsInOrder s l → rises s l ≡ true
@@ -117,10 +121,10 @@ module _ (s : List ℕ) where
   rises-of zero o = refl
   rises-of (suc l) o = after-of (endA s l) (endB s l) (endA s (suc l)) (endB s (suc l)) (o .order l refl)
 
-  link-tells : (l : ℕ) → l < h .m → Tells (linkNumber s h l) (λ x. FileFault s x (linkPlace l))
+  link-tells : (l : ℕ) → l < h .m → Tells (linkNumber s h l) (λ x. RecordFault s x (linkPlace l))
   unfolding linkNumber
   link-tells l b =
-      let P : ℕ → Type 0 = λ x. FileFault s x (linkPlace l) in
+      let P : ℕ → Type 0 = λ x. RecordFault s x (linkPlace l) in
       mark-tells (linkPlace l) 0x4C 0x4B _ P (link-mark l b)
       (need-tells P (ltb (endB s l) (h .n)) 4 _ (λ e. link-ends l b (λ o. let q = ltb-false (endB s l) (h .n) e in let w = o .ends in omega arith))
       (need-tells P (ltb (endA s l) (endB s l)) 4 _ (λ e. link-ends l b (λ o. let q = ltb-false (endA s l) (endB s l) e in let w = o .ends in omega arith))
@@ -128,10 +132,10 @@ module _ (s : List ℕ) where
       (need-tells P (leb 1 (linkWeight s l)) 5 _ (λ e. link-weight l b (λ o. let q = leb-false 1 (linkWeight s l) e in omega (arith, o .0)))
       (need-tells P (leb (linkWeight s l) (h .wmax)) 5 0 (λ e. link-weight l b (λ o. let q = leb-false (linkWeight s l) (h .wmax) e in omega (arith, o .1))) (nothing-told P))))))
 
-  home-tells : (v : ℕ) → v < homeRecords h → Tells (homeNumber s h v) (λ x. FileFault s x (homePlace h v))
+  home-tells : (v : ℕ) → v < homeRecords h → Tells (homeNumber s h v) (λ x. RecordFault s x (homePlace h v))
   unfolding homeNumber
   home-tells v b =
-      let P : ℕ → Type 0 = λ x. FileFault s x (homePlace h v) in
+      let P : ℕ → Type 0 = λ x. RecordFault s x (homePlace h v) in
       mark-tells (homePlace h v) 0x48 0x4D _ P (home-mark v b)
       (need-tells P (eqb (homeNode s h v) v) 6 _ (λ e. home-wrong v b (λ o. eqb-false _ _ e (o .0)))
       (need-tells P (leb 1 (homeTopology s h v)) 6 _ (λ e. home-wrong v b (λ o. let q = leb-false 1 (homeTopology s h v) e in omega (arith, o .1)))
@@ -151,22 +155,28 @@ module _ (s : List ℕ) where
           let w = F .normal l b (eqb-false _ _ p) (eqb-false _ _ q) in
           rw (p, q) (and-of (leb 1 (rowWeight s h j l)) (leb (rowWeight s h j l) (h .wmax)) (le-leb _ _ (w .0)) (le-leb _ _ (w .1)))
 
-  row-tells : (j : ℕ) → j < h .k → Tells (rowNumber s h j) (λ x. FileFault s x (rowPlace h j))
+  row-tells : (j : ℕ) → j < h .k → Tells (rowNumber s h j) (λ x. RecordFault s x (rowPlace h j))
   unfolding rowNumber
   row-tells j b =
-      let P : ℕ → Type 0 = λ x. FileFault s x (rowPlace h j) in
+      let P : ℕ → Type 0 = λ x. RecordFault s x (rowPlace h j) in
       mark-tells (rowPlace h j) 0x42 0x57 _ P (row-mark j b)
       (need-tells P (eqb (rowTopology s h j) (suc j)) 6 _ (λ e. row-topology j b (eqb-false _ _ e))
       (need-tells P (all (rowWeightFits s h j) (h .m)) 5 0 (λ e. row-weight j b (λ F. clash (all (rowWeightFits s h j) (h .m)) (all-of (rowWeightFits s h j) (h .m) (row-fits j F)) e)) (nothing-told P)))
 
+  records-say : Says (records s h) (RecordFault s)
+  unfolding records
+  records-say =
+      let P = RecordFault s in
+      then-says P _ _ (turn-says P _ (h .m) (λ l b. refuse-says P (linkNumber s h l) (linkPlace l) (link-tells l b)))
+      (λ c. then-says P _ _ (turn-says P _ (homeRecords h) (λ v b. refuse-says P (homeNumber s h v) (homePlace h v) (home-tells v b)))
+      (λ d. turn-says P _ (h .k) (λ j b. refuse-says P (rowNumber s h j) (rowPlace h j) (row-tells j b))))
+
   judge-says : Says (judge s) (FileFault s)
-  unfolding judge records
+  unfolding judge
   judge-says =
       let P = FileFault s in
       then-says P _ _ (refuse-says P (headerNumber s) 0 header-tells)
-      (λ a. then-says P _ _ (turn-says P _ (h .m) (λ l b. refuse-says P (linkNumber s h l) (linkPlace l) (link-tells l b)))
-      (λ c. then-says P _ _ (turn-says P _ (homeRecords h) (λ v b. refuse-says P (homeNumber s h v) (homePlace h v) (home-tells v b)))
-      (λ d. turn-says P _ (h .k) (λ j b. refuse-says P (rowNumber s h j) (rowPlace h j) (row-tells j b)))))
+      (λ a. says-map P (RecordFault s) (records s h) (λ x y q. in-record (header-meets s (refuse-zero (headerNumber s) 0 a) .limits) q) records-say)
 
 -- ---- 7 and 8
 
@@ -246,10 +256,6 @@ lookup-or S tables on p =
 -- ---- one number at place 0, where what it needs does not hold
 
 module _ (P : ℕ → ℕ → Type 0) where
-  -- what one verdict says in the words of another
-  says-map : (Q : ℕ → ℕ → Type 0) (v : Verdict) → ((number place : ℕ) → Q number place → P number place) → Says v Q → Says v P
-  says-map Q v f g = λ number place e. f number place (g number place e)
-
   room-says : (long : ℕ) (lent : List ℕ) → (length lent < long → P 14 0) → Says (needRoom long lent) P
   unfolding needRoom
   room-says long lent f =
@@ -335,53 +341,54 @@ check-says s =
     let P = CheckFault s in
     then-says P _ _ (says-map P (FileFault s) (judge s) (λ x y q. CheckFault.file q) (judge-says s))
     (λ a. then-says P _ _ (set-says P (headerOf s) CheckFault.graph)
-    (λ b. says-map P (TopologyFault (setOf s)) (topologies (setOf s)) (λ x y q. CheckFault.topology q) (topologies-say (setOf s))))
+    (λ b. says-map P (TopologyFault (setOf s)) (topologies (setOf s)) (λ x y q. CheckFault.topology (judged s a .rules) q) (topologies-say (setOf s))))
 
-read-says-so : SaysSo readEntry ReadFault
+pub read-refuses : (s : List ℕ) (d : Lists) → Says (readEntry .verdict s d) (ReadFault s d)
 unfolding readEntry
-read-says-so = says-so readEntry ReadFault (λ s d.
+read-refuses s d =
     let P = ReadFault s d in
-    then-says P _ _ (says-map P (FileFault s) (judge s) (λ x y q. ReadFault.file q) (judge-says s)) (λ a. lists-say P 14 (headerOf s) d ReadFault.room))
+    then-says P _ _ (says-map P (FileFault s) (judge s) (λ x y q. ReadFault.file q) (judge-says s)) (λ a. lists-say P 14 (headerOf s) d ReadFault.room)
 
-write-says-so : SaysSo writeEntry WriteFault
+pub write-refuses : (i : WriteInput) (lent : List ℕ) → Says (writeEntry .verdict i lent) (WriteFault i lent)
 unfolding writeEntry
-write-says-so = says-so writeEntry WriteFault (λ i lent.
+write-refuses i lent =
     let P = WriteFault i lent in
     let s : List ℕ = encode (setWith (i .net) (i .lists)) in
     then-says P _ _ (refuse-says P (needCounts (i .net) 0) 0 (counts-fail (i .net) 0 (λ x. P x 0) WriteFault.counts (nothing-told (λ x. P x 0))))
     (λ a. then-says P _ _ (lists-say P 1 (i .net) (i .lists) WriteFault.lists)
     (λ b. then-says P _ _ (says-map P (FileFault s) (judge s) (λ x y q. WriteFault.file q) (judge-says s))
-    (λ c. room-says P (fileLength (i .net)) lent WriteFault.room))))
+    (λ c. room-says P (fileLength (i .net)) lent WriteFault.room)))
 
-check-says-so : SaysSo checkEntry (λ s d. CheckFault s)
+pub check-refuses : (s : List ℕ) (d : NothingLent) → Says (checkEntry .verdict s d) (CheckFault s)
 unfolding checkEntry
-check-says-so = says-so checkEntry (λ s d. CheckFault s) (λ s d. check-says s)
+check-refuses s d =
+    check-says s
 
-tables-says-so : SaysSo tablesEntry TablesFault
+pub tables-refuses : (s : List ℕ) (lent : List ℕ) → Says (tablesEntry .verdict s lent) (TablesFault s lent)
 unfolding tablesEntry
-tables-says-so = says-so tablesEntry TablesFault (λ s lent.
+tables-refuses s lent =
     let P = TablesFault s lent in
-    then-says P _ _ (says-map P (CheckFault s) (check s) (λ x y q. TablesFault.check q) (check-says s)) (λ a. room-says P (tablesLength (headerOf s)) lent TablesFault.room))
+    then-says P _ _ (says-map P (CheckFault s) (check s) (λ x y q. TablesFault.check q) (check-says s)) (λ a. room-says P (tablesLength (headerOf s)) lent TablesFault.room)
 
-report-says-so : SaysSo reportEntry ReportFault
+pub report-refuses : (s : List ℕ) (lent : List ℕ) → Says (reportEntry .verdict s lent) (ReportFault s lent)
 unfolding reportEntry
-report-says-so = says-so reportEntry ReportFault (λ s lent.
+report-refuses s lent =
     let P = ReportFault s lent in
-    then-says P _ _ (says-map P (CheckFault s) (check s) (λ x y q. ReportFault.check q) (check-says s)) (λ a. room-says P (length (reportText (setOf s))) lent ReportFault.room))
+    then-says P _ _ (says-map P (CheckFault s) (check s) (λ x y q. ReportFault.check q) (check-says s)) (λ a. room-says P (length (reportText (setOf s))) lent ReportFault.room)
 
-run-says-so : SaysSo runEntry RunFault
+pub run-refuses : (i : RunInput) (d : RunLent) → Says (runEntry .verdict i d) (RunFault i d)
 unfolding runEntry
-run-says-so = says-so runEntry RunFault (λ i d.
+run-refuses i d =
     let P = RunFault i d in
     then-says P _ _ (says-map P (CheckFault (i .file)) (check (i .file)) (λ x y q. RunFault.check q) (check-says (i .file)))
     (λ a. then-says P _ _ (packet-says P (headerOf (i .file)) (packet (i .source) (i .destination) 0) (i .failure) RunFault.range)
     (λ b. then-says P _ _ (source-says P (i .source) (i .failure) RunFault.stopped)
     (λ c. then-says P _ _ (room-says P (tablesLength (headerOf (i .file))) (d .tables) RunFault.tables)
-    (λ e. room-says P (trailRoom (headerOf (i .file))) (d .trail) RunFault.trail)))))
+    (λ e. room-says P (trailRoom (headerOf (i .file))) (d .trail) RunFault.trail))))
 
-step-says-so : SaysSo stepEntry (λ i d. StepFault i)
+pub step-refuses : (i : StepInput) (d : NothingLent) → Says (stepEntry .verdict i d) (StepFault i)
 unfolding stepEntry lookupsOf
-step-says-so = says-so stepEntry (λ i d. StepFault i) (λ i d.
+step-refuses i d =
     let P = StepFault i in
     let S : Set = setOf (i .file) in
     then-says P _ _ (says-map P (FileFault (i .file)) (judge (i .file)) (λ x y q. StepFault.file q) (judge-says (i .file)))
@@ -389,7 +396,7 @@ step-says-so = says-so stepEntry (λ i d. StepFault i) (λ i d.
     (λ b. then-says P _ _ (packet-says P (headerOf (i .file)) (i .packet) (i .failure) StepFault.range)
     (λ c. then-says P _ _ (source-says P (i .packet .place) (i .failure) StepFault.stopped)
     (λ e. then-says P _ _ (room-says P (tablesLength (headerOf (i .file))) (i .tables) StepFault.room)
-    (λ f. refuse-says P _ 0 (lookup-tells S (lentTables (headerOf (i .file)) (i .tables)) (up S (faultOf (i .failure))) (i .packet) (λ x. P x 0) StepFault.lookup)))))))
+    (λ f. refuse-says P _ 0 (lookup-tells S (lentTables (headerOf (i .file)) (i .tables)) (up S (faultOf (i .failure))) (i .packet) (λ x. P x 0) StepFault.lookup))))))
 
 -- ---- build: 9 and 10 are exact
 
@@ -409,26 +416,28 @@ built-room s cap lent e f l =
     let R = judged s e .rules in
     subst (λ (g : Network). length lent < fileLength g) (built-net (setOf s) cap (fit-needed (setOf s) cap R f) R) l
 
-build-says-so : SaysSo buildEntry BuildFault
+pub build-refuses : (i : BuildInput) (lent : List ℕ) → Says (buildEntry .verdict i lent) (BuildFault i lent)
 unfolding buildEntry builtFrom
-build-says-so = says-so buildEntry BuildFault (λ i lent.
+build-refuses i lent =
     let P = BuildFault i lent in
     let G : Set = setOf (i .file) in
     then-says P _ _ (says-map P (FileFault (i .file)) (judge (i .file)) (λ x y q. BuildFault.file q) (judge-says (i .file)))
     (λ a. then-says P _ _ (graph-says P (headerOf (i .file)) BuildFault.set)
     (λ b. then-says P _ _ (cap-says P (i .cap) BuildFault.cap)
     (λ c. then-says P _ _ (fit-says P G (i .cap) (judged (i .file) a .rules) BuildFault.nine BuildFault.ten)
-    (λ f. room-says P (fileLength (built G (i .cap) .net)) lent (λ l. BuildFault.room (built-room (i .file) (i .cap) lent a f l)))))))
+    (λ f. room-says P (fileLength (built G (i .cap) .net)) lent (λ l. BuildFault.room (built-room (i .file) (i .cap) lent a f l))))))
+
+-- ---- what the answers tell
 
 pub refusals-say-so : RefusalsSaySo
 refusals-say-so =
     record {
-      read = read-says-so;
-      write = write-says-so;
-      check = check-says-so;
-      build = build-says-so;
-      tables = tables-says-so;
-      step = step-says-so;
-      run = run-says-so;
-      report = report-says-so;
+      read = says-so readEntry ReadFault read-refuses;
+      write = says-so writeEntry WriteFault write-refuses;
+      check = says-so checkEntry (λ s d. CheckFault s) check-refuses;
+      build = says-so buildEntry BuildFault build-refuses;
+      tables = says-so tablesEntry TablesFault tables-refuses;
+      step = says-so stepEntry (λ i d. StepFault i) step-refuses;
+      run = says-so runEntry RunFault run-refuses;
+      report = says-so reportEntry ReportFault report-refuses;
     }

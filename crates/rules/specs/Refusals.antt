@@ -15,7 +15,7 @@ use Rattle.rules.specs.Forwarding.{faultOf, up, lentTables, packet}
 use Rattle.rules.specs.Report.{reportText}
 use Rattle.rules.specs.Answers.{refused}
 use Rattle.rules.specs.Entries.{Entry, Promise, Lists, readEntry, WriteInput, setWith, writeEntry, checkEntry, BuildInput, buildEntry, tablesEntry, StepInput, stepEntry, RunInput, RunLent, runEntry, reportEntry}
-use Rattle.rules.specs.Demands.{WithinLimits, at, LongLists, Walk, Two, Removable, topologiesNeeded, withTopologies, InRange, Standing, LooksUp}
+use Rattle.rules.specs.Demands.{WithinLimits, at, MeetsRules, LongLists, Walk, Two, Removable, topologiesNeeded, withTopologies, InRange, Standing, LooksUp}
 
 -- ---- 1 to 6: of bytes s, by the counts of their header
 
@@ -45,26 +45,31 @@ pub record RowFits (s : List ℕ) (j : ℕ) : Type 0 where
   pub normal : (l : ℕ) → l < headerOf s .m → (AtHome s j (endA s l) → ⊥) → (AtHome s j (endB s l) → ⊥) → InWeights s (rowWeight s (headerOf s) j l)
   pub other : (l : ℕ) → l < headerOf s .m → AtHome s j (endA s l) ⊎ AtHome s j (endB s l) → rowWeight s (headerOf s) j l ≡ 0
 
--- what numbers 1 to 6 say at their place
+-- what numbers 2, 4, 5 and 6 say of a record, at its first byte
+pub data RecordFault (s : List ℕ) : ℕ → ℕ → Type 0 where
+  -- 2: "wrong mark"
+  link-mark : (l : ℕ) → l < headerOf s .m → (HasMark s (linkPlace l) 0x4C 0x4B → ⊥) → RecordFault s 2 (linkPlace l)
+  home-mark : (v : ℕ) → v < homeRecords (headerOf s) → (HasMark s (homePlace (headerOf s) v) 0x48 0x4D → ⊥) → RecordFault s 2 (homePlace (headerOf s) v)
+  row-mark : (j : ℕ) → j < headerOf s .k → (HasMark s (rowPlace (headerOf s) j) 0x42 0x57 → ⊥) → RecordFault s 2 (rowPlace (headerOf s) j)
+  -- 4: "link ends or order wrong"
+  link-ends : (l : ℕ) → l < headerOf s .m → (EndsInOrder s l → ⊥) → RecordFault s 4 (linkPlace l)
+  -- 5: "weight against its rule"
+  link-weight : (l : ℕ) → l < headerOf s .m → (InWeights s (linkWeight s l) → ⊥) → RecordFault s 5 (linkPlace l)
+  row-weight : (j : ℕ) → j < headerOf s .k → (RowFits s j → ⊥) → RecordFault s 5 (rowPlace (headerOf s) j)
+  -- 6: "home's node or topology, or row's topology, wrong"
+  home-wrong : (v : ℕ) → v < homeRecords (headerOf s) → (HomeFits s v → ⊥) → RecordFault s 6 (homePlace (headerOf s) v)
+  row-topology : (j : ℕ) → j < headerOf s .k → (rowTopology s (headerOf s) j ≡ suc j → ⊥) → RecordFault s 6 (rowPlace (headerOf s) j)
+
+-- what numbers 1 to 6 say of a file; a record is judged where the counts are within their ranges
 pub data FileFault (s : List ℕ) : ℕ → ℕ → Type 0 where
   -- 1: "under 8 bytes, or length not the one the counts give"; place 0
   under : length s < headerLength → FileFault s 1 0
-  longer : (length s ≡ fileLength (headerOf s) → ⊥) → FileFault s 1 0
-  -- 2: "wrong mark"; the record's first byte
+  other-length : (length s ≡ fileLength (headerOf s) → ⊥) → FileFault s 1 0
+  -- 2: "wrong mark", of the header
   header-mark : (HasMark s 0 0x4E 0x57 → ⊥) → FileFault s 2 0
-  link-mark : (l : ℕ) → l < headerOf s .m → (HasMark s (linkPlace l) 0x4C 0x4B → ⊥) → FileFault s 2 (linkPlace l)
-  home-mark : (v : ℕ) → v < homeRecords (headerOf s) → (HasMark s (homePlace (headerOf s) v) 0x48 0x4D → ⊥) → FileFault s 2 (homePlace (headerOf s) v)
-  row-mark : (j : ℕ) → j < headerOf s .k → (HasMark s (rowPlace (headerOf s) j) 0x42 0x57 → ⊥) → FileFault s 2 (rowPlace (headerOf s) j)
   -- 3: "n, m, k or wmax outside its range"; place 0
   counts : (WithinLimits (headerOf s) → ⊥) → FileFault s 3 0
-  -- 4: "link ends or order wrong"; the record's first byte
-  link-ends : (l : ℕ) → l < headerOf s .m → (EndsInOrder s l → ⊥) → FileFault s 4 (linkPlace l)
-  -- 5: "weight against its rule"; the record's first byte
-  link-weight : (l : ℕ) → l < headerOf s .m → (InWeights s (linkWeight s l) → ⊥) → FileFault s 5 (linkPlace l)
-  row-weight : (j : ℕ) → j < headerOf s .k → (RowFits s j → ⊥) → FileFault s 5 (rowPlace (headerOf s) j)
-  -- 6: "home's node or topology, or row's topology, wrong"; the record's first byte
-  home-wrong : (v : ℕ) → v < homeRecords (headerOf s) → (HomeFits s v → ⊥) → FileFault s 6 (homePlace (headerOf s) v)
-  row-topology : (j : ℕ) → j < headerOf s .k → (rowTopology s (headerOf s) j ≡ suc j → ⊥) → FileFault s 6 (rowPlace (headerOf s) j)
+  in-record : {number place : ℕ} → WithinLimits (headerOf s) → RecordFault s number place → FileFault s number place
 
 -- ---- 7 and 8: of a set's topologies
 
@@ -105,7 +110,8 @@ pub data CheckFault (s : List ℕ) : ℕ → ℕ → Type 0 where
   file : {number place : ℕ} → FileFault s number place → CheckFault s number place
   -- 13: "graph alone where a set is needed"
   graph : headerOf s .k ≡ 0 → CheckFault s 13 0
-  topology : {number place : ℕ} → TopologyFault (setOf s) number place → CheckFault s number place
+  -- 7 and 8, of a file that meets its own rules
+  topology : {number place : ℕ} → MeetsRules (setOf s) → TopologyFault (setOf s) number place → CheckFault s number place
 
 pub data BuildFault (i : BuildInput) (lent : List ℕ) : ℕ → ℕ → Type 0 where
   file : {number place : ℕ} → FileFault (i .file) number place → BuildFault i lent number place
