@@ -85,7 +85,7 @@ pub data TopologyFault (S : Set) : ℕ → ℕ → Type 0 where
   -- 8: "an isolated node with fewer than two restricted links"
   too-few : (i v : ℕ) → 1 ≤ i → i ≤ S .net .k → v < S .net .n → isolated S i v ≡ true → (Two (λ w. neighbours S v w && backbone S i w) → ⊥) → TopologyFault S 8 i
 
--- ---- of each entry; all other places are 0
+-- ---- what the refusals of each entry say; every place that is not a record's or a topology's is 0
 
 -- a packet and a failure within a set's counts
 pub record Known (h : Network) (p : Packet) (f : Failure) : Type 0 where
@@ -94,18 +94,20 @@ pub record Known (h : Network) (p : Packet) (f : Failure) : Type 0 where
   pub topology : p .topology ≤ h .k
   pub failure : InRange h f
 
+-- read
 pub data ReadFault (s : List ℕ) (d : Lists) : ℕ → ℕ → Type 0 where
   file : {number place : ℕ} → FileFault s number place → ReadFault s d number place
   -- 14: "lent room too short"
   room : (LongLists (headerOf s) d → ⊥) → ReadFault s d 14 0
 
--- "The writer gives the number and place the reader would give for what it would write; [..] a list shorter than the counts need is 1"
+-- write: "The writer gives the number and place the reader would give for what it would write; [..] a list shorter than the counts need is 1"
 pub data WriteFault (i : WriteInput) (lent : List ℕ) : ℕ → ℕ → Type 0 where
   counts : (WithinLimits (i .net) → ⊥) → WriteFault i lent 3 0
   lists : (LongLists (i .net) (i .lists) → ⊥) → WriteFault i lent 1 0
   file : {number place : ℕ} → FileFault (encode (setWith (i .net) (i .lists))) number place → WriteFault i lent number place
   room : length lent < fileLength (i .net) → WriteFault i lent 14 0
 
+-- check: of a file, then of its topologies
 pub data CheckFault (s : List ℕ) : ℕ → ℕ → Type 0 where
   file : {number place : ℕ} → FileFault s number place → CheckFault s number place
   -- 13: "graph alone where a set is needed"
@@ -113,6 +115,7 @@ pub data CheckFault (s : List ℕ) : ℕ → ℕ → Type 0 where
   -- 7 and 8, of a file that meets its own rules
   topology : {number place : ℕ} → MeetsRules (setOf s) → TopologyFault (setOf s) number place → CheckFault s number place
 
+-- build
 pub data BuildFault (i : BuildInput) (lent : List ℕ) : ℕ → ℕ → Type 0 where
   file : {number place : ℕ} → FileFault (i .file) number place → BuildFault i lent number place
   -- 13: "a set given to the builder"
@@ -125,10 +128,12 @@ pub data BuildFault (i : BuildInput) (lent : List ℕ) : ℕ → ℕ → Type 0 
   ten : i .cap < topologiesNeeded (setOf (i .file)) → BuildFault i lent 10 0
   room : length lent < fileLength (withTopologies (headerOf (i .file)) (topologiesNeeded (setOf (i .file)))) → BuildFault i lent 14 0
 
+-- tables: those of check, then room
 pub data TablesFault (s lent : List ℕ) : ℕ → ℕ → Type 0 where
   check : {number place : ℕ} → CheckFault s number place → TablesFault s lent number place
   room : length lent < tablesLength (headerOf s) → TablesFault s lent 14 0
 
+-- step
 pub data StepFault (i : StepInput) : ℕ → ℕ → Type 0 where
   file : {number place : ℕ} → FileFault (i .file) number place → StepFault i number place
   graph : headerOf (i .file) .k ≡ 0 → StepFault i 13 0
@@ -140,6 +145,7 @@ pub data StepFault (i : StepInput) : ℕ → ℕ → Type 0 where
   -- 15: "a table entry it looks up isn't a neighbour"
   lookup : (LooksUp (setOf (i .file)) (lentTables (headerOf (i .file)) (i .tables)) (up (setOf (i .file)) (faultOf (i .failure))) (i .packet) → ⊥) → StepFault i 15 0
 
+-- run: those of check, then its own
 pub data RunFault (i : RunInput) (d : RunLent) : ℕ → ℕ → Type 0 where
   check : {number place : ℕ} → CheckFault (i .file) number place → RunFault i d number place
   range : (Known (headerOf (i .file)) (packet (i .source) (i .destination) 0) (i .failure) → ⊥) → RunFault i d 11 0
@@ -148,6 +154,7 @@ pub data RunFault (i : RunInput) (d : RunLent) : ℕ → ℕ → Type 0 where
   tables : length (d .tables) < tablesLength (headerOf (i .file)) → RunFault i d 14 0
   trail : length (d .trail) < trailRoom (headerOf (i .file)) → RunFault i d 14 0
 
+-- report: those of check, then room
 pub data ReportFault (s lent : List ℕ) : ℕ → ℕ → Type 0 where
   check : {number place : ℕ} → CheckFault s number place → ReportFault s lent number place
   room : length lent < length (reportText (setOf s)) → ReportFault s lent 14 0
