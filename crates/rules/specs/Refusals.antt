@@ -120,7 +120,7 @@ pub data BuildFault (i : BuildInput) (lent : List ℕ) : ℕ → ℕ → Type 0 
   file : {number place : ℕ} → FileFault (i .file) number place → BuildFault i lent number place
   -- 13: "a set given to the builder"
   set : (headerOf (i .file) .k ≡ 0 → ⊥) → BuildFault i lent 13 0
-  -- 11: "cap outside its range"
+  -- 11: "[..] cap outside its range"
   cap : ((1 ≤ i .cap) × (i .cap ≤ 32) → ⊥) → BuildFault i lent 11 0
   -- 9: "removing some one node disconnects the others"
   nine : (Removable (setOf (i .file)) → ⊥) → BuildFault i lent 9 0
@@ -139,7 +139,7 @@ pub data StepFault (i : StepInput) : ℕ → ℕ → Type 0 where
   graph : headerOf (i .file) .k ≡ 0 → StepFault i 13 0
   -- 11: "node, destination, topology, failure [..] outside its range"
   range : (Known (headerOf (i .file)) (i .packet) (i .failure) → ⊥) → StepFault i 11 0
-  -- 12: "the packet's present node is the failed node"
+  -- 12: "[..] the packet's present node, is the failed node"
   stopped : (Standing (i .packet .place) (i .failure) → ⊥) → StepFault i 12 0
   room : length (i .tables) < tablesLength (headerOf (i .file)) → StepFault i 14 0
   -- 15: "a table entry it looks up isn't a neighbour"
@@ -149,7 +149,7 @@ pub data StepFault (i : StepInput) : ℕ → ℕ → Type 0 where
 pub data RunFault (i : RunInput) (d : RunLent) : ℕ → ℕ → Type 0 where
   check : {number place : ℕ} → CheckFault (i .file) number place → RunFault i d number place
   range : (Known (headerOf (i .file)) (packet (i .source) (i .destination) 0) (i .failure) → ⊥) → RunFault i d 11 0
-  -- 12: "the source is the failed node"
+  -- 12: "the source [..] is the failed node"
   stopped : (Standing (i .source) (i .failure) → ⊥) → RunFault i d 12 0
   tables : length (d .tables) < tablesLength (headerOf (i .file)) → RunFault i d 14 0
   trail : length (d .trail) < trailRoom (headerOf (i .file)) → RunFault i d 14 0
