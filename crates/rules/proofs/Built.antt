@@ -107,15 +107,19 @@ module _ (G : Set) (homes : List ℕ) where
   unfolding filled home
   filled-rules R H =
       record {
-        limits = record { nodes = R .limits .nodes; links = R .limits .links; topologies = (H .few, H .nodes); weights = R .limits .weights };
+        limits = record { nodes = R .limits .nodes; links = R .limits .links; topologies = (H .few, H .nodes); weights = let w = R .limits .weights in (omega arith, omega arith) };
         links-long = R .links-long;
         homes-long = H .long ∙ sym (homes-all (filled G homes .net) (some R H));
         rows-long = rows-long;
         ends = R .ends;
         order = R .order;
-        weights = R .weights;
+        weights = λ l g. let a = R .weights l g in let w = R .limits .weights in (omega arith, omega arith);
         homes = λ v l. let e = homes-all (filled G homes .net) (some R H) in (H .low v (omega arith), highest-least homes (G .net .n) v (omega arith));
-        normal = λ i l one h g c. subst (λ (x : ℕ). (1 ≤ x) × (x ≤ G .net .wmax)) (sym (filled-row i l one h g ∙ on-normal (class (filled G homes) i l) (at (G .weights) l) c)) (R .weights l g);
+        normal = λ i l one h g c.
+            let e = filled-row i l one h g ∙ on-normal (class (filled G homes) i l) (at (G .weights) l) c in
+            let a = R .weights l g in
+            let w = R .limits .weights in
+            (omega arith, omega arith);
         other = λ i l one h g c. filled-row i l one h g ∙ on-other (class (filled G homes) i l) (at (G .weights) l) c;
       }
 

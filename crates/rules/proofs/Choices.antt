@@ -129,6 +129,9 @@ pub then-ok : (v w : Verdict) → v ≡ Accepted → andThen v w ≡ w
 unfolding andThen
 then-ok v w e = rw e
 
+pub then-both : (v w : Verdict) → v ≡ Accepted → w ≡ Accepted → andThen v w ≡ Accepted
+then-both v w e f = then-ok v w e ∙ f
+
 pub then-no : (v w : Verdict) (number place : ℕ) → v ≡ Refused number place → andThen v w ≡ Refused number place
 unfolding andThen
 then-no v w number place e = rw e

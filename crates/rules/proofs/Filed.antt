@@ -12,7 +12,7 @@ use Rattle.rules.specs.File.{Set, encode, headerOf, setOf}
 use Rattle.rules.specs.Judgement.{judge}
 use Rattle.rules.specs.Entries.{Lists, needLists, listsWith, readEntry, WriteInput, setWith, writeEntry}
 use Rattle.rules.specs.Demands.{Bytes, MeetsRules, AcceptsExactly, ThenGives, IsRead, IsLength, Front, FileOf, LongLists, ReadMeets, ReadGives, cutTo, WriteMeets, WriteGives}
-use Rattle.rules.proofs.Choices.{refuse-ok, then-ok, then-first, then-second}
+use Rattle.rules.proofs.Choices.{refuse-ok, then-ok, then-both, then-first, then-second}
 use Rattle.rules.proofs.Rows.{upTo-take}
 use Rattle.rules.proofs.Encoded.{header-back}
 use Rattle.rules.proofs.Held.{net-held}
@@ -97,10 +97,13 @@ cut-meets h d l e = subst MeetsRules (set-of-encode (setWith h d) ∙ within-cut
 write-meets : (S : Set) (i : WriteInput) (room : List ℕ) → WriteMeets S i room → writeEntry .verdict i room ≡ Accepted
 unfolding writeEntry
 write-meets S i room M =
-    then-ok _ _ (sym (refuse-ok (needCounts (i .net) 0) 0 (counts-on (i .net) 0 (M .limits))))
-    ∙ then-ok _ _ (long-lists 1 (i .net) (i .lists) (M .lists))
-    ∙ then-ok _ _ (ap judge (encode-cut (i .net) (i .lists) (M .lists) ∙ ap encode (sym (M .set))) ∙ encode-accepted S (M .rules))
-    ∙ room-ok (fileLength (i .net)) room (M .room)
+    let counted = sym (refuse-ok (needCounts (i .net) 0) 0 (counts-on (i .net) 0 (M .limits))) in
+    let long = M .lists in
+    let file : judge (encode (setWith (i .net) (i .lists))) ≡ Accepted =
+    ap judge (encode-cut (i .net) (i .lists) (M .lists) ∙ ap encode (sym (M .set))) ∙ encode-accepted S (M .rules)
+    in
+    let room = room-ok (fileLength (i .net)) room (M .room) in
+    search (then-both, long-lists)
 
 pub write-accepts : AcceptsExactly writeEntry IsLength (λ i. Unit {0}) WriteMeets
 unfolding writeEntry cutTo
@@ -110,7 +113,7 @@ write-accepts =
     write-asked : (i : WriteInput) (room : List ℕ) → Unit {0} → writeEntry .verdict i room ≡ Accepted → (S : Set) × WriteMeets S i room
     write-asked i room fair e =
         let rest = then-second _ _ e in
-        let l = lists-long 0 (i .net) (i .lists) (then-first _ _ rest) in
+        let l = lists-long _ (i .net) (i .lists) (then-first _ _ rest) in
         let R = cut-meets (i .net) (i .lists) l (then-first _ _ (then-second _ _ rest)) in (
           cutTo (i .net) (i .lists),
           record { limits = R .limits; lists = l; set = refl; rules = R; room = room-long (fileLength (i .net)) room (then-second _ _ (then-second _ _ rest)) },

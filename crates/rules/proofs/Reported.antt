@@ -12,7 +12,7 @@ use Rattle.rules.specs.Judgement.{needRoom}
 use Rattle.rules.specs.Report.{reportText}
 use Rattle.rules.specs.Entries.{reportEntry}
 use Rattle.rules.specs.Demands.{Bytes, AcceptsExactly, ThenGives, IsLength, Front, ReportMeets, ReportGives, ReportFits}
-use Rattle.rules.proofs.Choices.{then-ok, then-first, then-second}
+use Rattle.rules.proofs.Choices.{then-both, then-first, then-second}
 use Rattle.rules.proofs.Answering.{accepts, told, left, front-laid, length-values, length-is}
 use Rattle.rules.proofs.Needs.{room-ok, room-long}
 use Rattle.rules.proofs.Tabled.{accepted-file, file-checked, its-set}
@@ -21,9 +21,9 @@ use Rattle.rules.proofs.Fits.{report-longest}
 report-meets : (S : Set) (s lent : List ℕ) → ReportMeets S s lent → reportEntry .verdict s lent ≡ Accepted
 unfolding reportEntry
 report-meets S s lent M =
-    then-ok _ _ (file-checked S s (M .file))
-    ∙ ap (λ (T : Set). needRoom (length (reportText T)) lent) (its-set S s (M .file))
-    ∙ room-ok (length (reportText S)) lent (M .room)
+    let checked = file-checked S s (M .file) in
+    let room = ap (λ (T : Set). needRoom (length (reportText T)) lent) (its-set S s (M .file)) ∙ room-ok (length (reportText S)) lent (M .room) in
+    search then-both
 
 pub report-accepts : AcceptsExactly reportEntry IsLength Bytes ReportMeets
 unfolding reportEntry

@@ -14,7 +14,7 @@ use Rattle.rules.specs.Isolation.{home, neighbours}
 use Rattle.rules.specs.Forwarding.{Tables, faultOf, up, lentTables, step, alternateNumber, changeNumber, towardNumber, lookupNumber}
 use Rattle.rules.specs.Entries.{NothingLent, StepInput, lookupsOf, stepOf, stepEntry}
 use Rattle.rules.specs.Demands.{Bytes, AcceptsExactly, ThenGives, IsTaken, LooksUp, StepMeets, StepGives}
-use Rattle.rules.proofs.Choices.{refuse-ok, refuse-zero, then-ok, then-first, then-second}
+use Rattle.rules.proofs.Choices.{refuse-ok, refuse-zero, then-both, then-first, then-second}
 use Rattle.rules.proofs.Answering.{accepts, told, step-values, step-is}
 use Rattle.rules.proofs.Needs.{room-ok, room-long, set-needed, set-given, packet-needed, packet-given, source-needed, source-given}
 use Rattle.rules.proofs.Filed.{file-judged, file-set, judged-file}
@@ -88,12 +88,18 @@ own-set S i d M = file-set S (i .file) (M .file)
 held-meets : (i : StepInput) (d : NothingLent) → StepMeets (setOf (i .file)) i d → stepEntry .verdict i d ≡ Accepted
 unfolding stepEntry lookupsOf setOf
 held-meets i d M =
-    then-ok _ _ (file-judged (setOf (i .file)) (i .file) (M .file))
-    ∙ then-ok _ _ (set-given (headerOf (i .file)) (M .topologies))
-    ∙ then-ok _ _ (packet-given (headerOf (i .file)) (i .packet) (i .failure) (record { place = M .place; destination = M .destination; topology = M .topology; failure = M .failure }))
-    ∙ then-ok _ _ (source-given (i .packet .place) (i .failure) (M .standing))
-    ∙ then-ok _ _ (room-ok (tablesLength (headerOf (i .file))) (i .tables) (M .tables))
-    ∙ sym (refuse-ok _ 0 (looked-up (setOf (i .file)) (lentTables (headerOf (i .file)) (i .tables)) (up (setOf (i .file)) (faultOf (i .failure))) (i .packet) (M .looks-up)))
+    let file = file-judged (setOf (i .file)) (i .file) (M .file) in
+    let set = set-given (headerOf (i .file)) (M .topologies) in
+    let known =
+    packet-given (headerOf (i .file)) (i .packet) (i .failure) (record { place = M .place; destination = M .destination; topology = M .topology; failure = M .failure })
+    in
+    let source = source-given (i .packet .place) (i .failure) (M .standing) in
+    let room = room-ok (tablesLength (headerOf (i .file))) (i .tables) (M .tables) in
+    let looks =
+    sym (refuse-ok (lookupNumber (setOf (i .file)) (lentTables (headerOf (i .file)) (i .tables)) (up (setOf (i .file)) (faultOf (i .failure))) (i .packet)) 0
+    (looked-up (setOf (i .file)) (lentTables (headerOf (i .file)) (i .tables)) (up (setOf (i .file)) (faultOf (i .failure))) (i .packet) (M .looks-up)))
+    in
+    search then-both
 
 step-meets : (S : Set) (i : StepInput) (d : NothingLent) → StepMeets S i d → stepEntry .verdict i d ≡ Accepted
 step-meets S i d M = held-meets i d (subst (λ (T : Set). StepMeets T i d) (sym (own-set S i d M)) M)

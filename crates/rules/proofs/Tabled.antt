@@ -20,7 +20,7 @@ use Rattle.rules.specs.Forwarding.{entryPlace}
 use Rattle.rules.specs.Judgement.{check, needRoom}
 use Rattle.rules.specs.Entries.{checkEntry, tablesEntry}
 use Rattle.rules.specs.Demands.{Bytes, AcceptsExactly, ThenGives, IsAccepted, IsLength, FileOf, AcceptedFile, CheckMeets, NextHopIs, AlternateIs, TablesMeet, TablesGive}
-use Rattle.rules.proofs.Choices.{if-yes, if-no, then-ok, then-first, then-second}
+use Rattle.rules.proofs.Choices.{if-yes, if-no, then-both, then-first, then-second}
 use Rattle.rules.proofs.Rows.{getD-laid, laid-rest}
 use Rattle.rules.proofs.Square.{tables-long, inside, entry-at, last-at}
 use Rattle.rules.proofs.Held.{net-held}
@@ -63,9 +63,9 @@ check-accepts =
 pub tables-meets : (S : Set) (s lent : List ℕ) → TablesMeet S s lent → tablesEntry .verdict s lent ≡ Accepted
 unfolding tablesEntry
 tables-meets S s lent M =
-    then-ok _ _ (file-checked S s (M .file))
-    ∙ ap (λ (h : Network). needRoom (tablesLength h) lent) (its-header S s (M .file))
-    ∙ room-ok (tablesLength (S .net)) lent (M .room)
+    let checked = file-checked S s (M .file) in
+    let room = ap (λ (h : Network). needRoom (tablesLength h) lent) (its-header S s (M .file)) ∙ room-ok (tablesLength (S .net)) lent (M .room) in
+    search then-both
 
 pub tables-accepts : AcceptsExactly tablesEntry IsLength Bytes TablesMeet
 unfolding tablesEntry
