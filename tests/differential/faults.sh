@@ -20,7 +20,7 @@ rustc --edition 2021 --crate-type staticlib --crate-name stand_in -C opt-level=2
 names=$(grep -o 'fn burnishpeg_[a-z]*' stand-in/lib.rs | sed 's/fn //')
 ld -r --force-group-allocation -o "$work/stand_in.o" $(printf -- '-u %s ' $names) "$work/libstand_in.a"
 objcopy --wildcard --keep-global-symbol='burnishpeg_*' -R .llvmbc -R .llvmcmd "$work/stand_in.o"
-ar rcs "$work/libcapi.a" "$work/stand_in.o"
+ar rcs "$work/libburnishpeg.a" "$work/stand_in.o"
 BURNISHPEG_LIB=$work cargo build --release --offline -j1 --quiet --target-dir target/faults
 
 missed=0

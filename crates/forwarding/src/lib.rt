@@ -8,15 +8,15 @@ use hop::lookup_number;
 use hop::take;
 use housefile::header;
 use housefile::judge;
-use order::most_hops;
-use order::need_packet;
-use order::need_room;
-use order::need_set;
-use order::need_source;
-use order::refuse;
-use order::tables_length;
-use order::then;
-use order::trail_room;
+use needs::most_hops;
+use needs::need_packet;
+use needs::need_room;
+use needs::need_set;
+use needs::need_source;
+use needs::refuse;
+use needs::tables_length;
+use needs::then;
+use needs::trail_room;
 use rules::Failure;
 use rules::Journey;
 use rules::Network;
@@ -111,7 +111,7 @@ fn run_in(
     ensures { λ r. ⌜ Ran (now (file .entry)) start failure (runLent (now (tables .entry)) (now (trail .entry))) r (runLent (now (tables .exit)) (now (trail .exit))) ⌝ }
 {
     let long = tables_length(net);
-    filetables::fill(file, net, &mut tables[..long]);
+    tables::fill(file, net, &mut tables[..long]);
     travel(file, net, tables, failure, start, most_hops(net), trail)
 }
 

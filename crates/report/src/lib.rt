@@ -5,7 +5,7 @@ pub mod text; // text.rt: bytes, numbers and letters at a cursor
 pub mod seen; // seen.rt: what a detecting node sees
 pub mod lines; // lines.rt: the lines and the whole text
 
-use filetables::tables;
+use tables::tables;
 use housefile::header;
 use lines::write;
 use rules::LengthAnswer;

@@ -7,7 +7,7 @@ use crate::text::labelled;
 use crate::text::letter;
 use crate::text::number;
 use crate::text::put;
-use order::times;
+use needs::times;
 use rules::Kind;
 use rules::Network;
 ghost use mathlib.Core.Path.{_≡_};

@@ -1,2 +1,2 @@
--- How the tables are put together, topology by topology.
-pub mod Stages
+-- The lists between a file and its tables.
+pub mod Parts

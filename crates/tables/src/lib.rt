@@ -1,305 +1,169 @@
-// The tables of a set: (k + 1) × n × n next hops by topology, node and destination, then n × n alternates by node and neighbour.
-// `fill_tables` promises that the lent bytes become exactly those of the definitions. Each topology's distances are made once: its next
-// hops and the alternates of the nodes whose home it is are taken while they are at hand. All room to work in is local.
+// The tables of a set's file. `tables` promises, for any bytes and any room, the published tables at the front of the lent room
+// and their length, or 01's refusal with every lent byte as it came: 1 to 6, 13, 7 and 8 by topology, 14. The lists that the
+// tables are made from are local.
+use housefile::header;
+use needs::need_room;
+use needs::tables_length;
+use needs::then;
+use reader::lists_into;
+use reader::row_entries;
+use rules::LengthAnswer;
 use rules::Network;
+use rules::Verdict;
+use engine::fill_tables;
 ghost use mathlib.Core.Path.{_≡_};
-ghost use Prim.Native.Nat.{_+_, _*_, _≤_, _<_};
 ghost use lib.ListN.{length};
-ghost use Rattle.rules.specs.Basics.{upTo, flat};
-ghost use Rattle.rules.specs.Limits.{restrictedWeight, tablesLength};
+ghost use Rattle.rules.specs.declared.Verdict.the-variants.{Accepted};
+ghost use Rattle.rules.specs.Limits.{tablesLength};
+ghost use Rattle.rules.specs.File.{headerOf, setOf};
 ghost use Rattle.rules.specs.Distance.{tableBytes};
-ghost use Rattle.rules.specs.Demands.{AcceptedSet};
-ghost use Rattle.rules.specs.Entries.{lists, setWith};
-ghost use Rattle.routes.specs.Costs.{cost};
-ghost use Rattle.tables.specs.Stages.{entriesOf, Ready, AlternatesBelow, Work, Added, AddedAt, AllAdded, Roomy, entry};
+ghost use Rattle.rules.specs.Judgement.{check};
+ghost use Rattle.rules.specs.Entries.{lists, Promise, tablesEntry};
+ghost use Rattle.tables.specs.Parts.{Exact, Wide, Held, tablesVerdict};
 
-fn product(x: u32, y: u32) -> u32
-    requires { ⌜ (x ≤ 256) × (y < 65536) ⌝ }
-    ensures { λ r. ⌜ r ≡ x * y ⌝ }
-{
-    x * y
-}
+// ---- from a file to its tables, by lists
 
-// 2 × m × wmax.
-fn restricted_weight(net: Network) -> u32
-    requires { ⌜ net .m ≤ 128 ⌝ }
-    ensures { λ r. ⌜ r ≡ restrictedWeight net ⌝ }
-{
-    let m = net.m as u32;
-    let wmax = net.wmax as u32;
-    product(2 * m, wmax)
-}
-
-// The cost of every link in topology i.
-fn costs<'a>(
+// Lists that hold the file's set.
+fn by_lists<'a>(
+    file: &[u8],
     net: Network,
     a: &[u8],
     b: &[u8],
     weights: &'a [u16],
     homes: &[u8],
     rows: &'a [u16],
-    i: u8,
-    c: &mut [u32],
-)
-    requires { ⌜ AcceptedSet (setWith net (lists (now a) (now b) (now weights) (now homes) (now rows))) ⌝ }
-    requires { ⌜ (i ≤ net .k) × (length (now c) ≡ net .m) ⌝ }
-    ensures { λ _. ⌜ now (c .exit) ≡ upTo (cost (setWith net (lists (now (a .entry)) (now (b .entry)) (now (weights .entry)) (now (homes .entry)) (now (rows .entry)))) i) (net .m) ⌝ }
-{
-    let m = net.m as usize;
-    let row = routes::row_in_force(weights, rows, m, i as usize);
-    let r = restricted_weight(net);
-    routes::fill_costs(a, b, homes, row, i, r, c);
-}
-
-// The costs c and the distances d of topology i.
-fn measure<'a>(
-    net: Network,
-    a: &[u8],
-    b: &[u8],
-    weights: &'a [u16],
-    homes: &[u8],
-    rows: &'a [u16],
-    i: u8,
-    c: &mut [u32],
-    d: &mut [[u32; Network::LANES]],
-)
-    requires { ⌜ AcceptedSet (setWith net (lists (now a) (now b) (now weights) (now homes) (now rows))) ⌝ }
-    requires { ⌜ (i ≤ net .k) × (length (now c) ≡ net .m) × (length (now d) ≡ net .n) ⌝ }
-    ensures { λ _. ⌜ Ready (setWith net (lists (now (a .entry)) (now (b .entry)) (now (weights .entry)) (now (homes .entry)) (now (rows .entry)))) i (now (c .exit)) (now (d .exit)) ⌝ }
-{
-    costs(net, a, b, weights, homes, rows, i, c);
-    routes::distances(a, b, c, d);
-}
-
-// Topology i: its next hops, and the alternates of the nodes whose home it is.
-fn topology<'a>(
-    net: Network,
-    a: &[u8],
-    b: &[u8],
-    weights: &'a [u16],
-    homes: &[u8],
-    rows: &'a [u16],
-    i: u8,
-    c: &mut [u32],
-    d: &mut [[u32; Network::LANES]],
-    w: &mut [[u32; Network::LANES]],
-    alts: &mut [[u8; Network::MOST_NODES]],
     out: &mut [u8],
 )
-    requires { ⌜ AcceptedSet (setWith net (lists (now a) (now b) (now weights) (now homes) (now rows))) ⌝ }
-    requires { ⌜ Work (setWith net (lists (now a) (now b) (now weights) (now homes) (now rows))) (now c) (now d) (now w) ⌝ }
-    requires { ⌜ AlternatesBelow (setWith net (lists (now a) (now b) (now weights) (now homes) (now rows))) i (now alts) ⌝ }
-    requires { ⌜ (i ≤ net .k) × (length (now out) ≡ net .n * net .n) ⌝ }
-    ensures { λ _. ⌜ Added (setWith net (lists (now (a .entry)) (now (b .entry)) (now (weights .entry)) (now (homes .entry)) (now (rows .entry)))) i (now (out .exit)) (now (alts .exit)) ⌝ }
-{
-    measure(net, a, b, weights, homes, rows, i, c, d);
-    hops::hop_table(a, b, c, d, w, out);
-    hops::alternates::fill(a, b, homes, i, d, alts);
-}
-
-// The same into out at `at`.
-fn topology_at<'a>(
-    net: Network,
-    a: &[u8],
-    b: &[u8],
-    weights: &'a [u16],
-    homes: &[u8],
-    rows: &'a [u16],
-    i: u8,
-    c: &mut [u32],
-    d: &mut [[u32; Network::LANES]],
-    w: &mut [[u32; Network::LANES]],
-    alts: &mut [[u8; Network::MOST_NODES]],
-    out: &mut [u8],
-    at: usize,
-)
-    requires { ⌜ AcceptedSet (setWith net (lists (now a) (now b) (now weights) (now homes) (now rows))) ⌝ }
-    requires { ⌜ Work (setWith net (lists (now a) (now b) (now weights) (now homes) (now rows))) (now c) (now d) (now w) ⌝ }
-    requires { ⌜ AlternatesBelow (setWith net (lists (now a) (now b) (now weights) (now homes) (now rows))) i (now alts) ⌝ }
-    requires { ⌜ (i ≤ net .k) × (at + net .n * net .n ≤ length (now out)) ⌝ }
-    ensures { λ _. ⌜ AddedAt (setWith net (lists (now (a .entry)) (now (b .entry)) (now (weights .entry)) (now (homes .entry)) (now (rows .entry)))) i at (now (out .entry)) (now (out .exit)) (now (alts .exit)) ⌝ }
-{
-    let n = net.n as usize;
-    let to = at + n * n;
-    topology(
-        net,
-        a,
-        b,
-        weights,
-        homes,
-        rows,
-        i,
-        c,
-        d,
-        w,
-        alts,
-        &mut out[at..to],
-    );
-}
-
-// Every topology: the next hops one after the other, and into alts the alternates of all nodes.
-fn topologies<'a>(
-    net: Network,
-    a: &[u8],
-    b: &[u8],
-    weights: &'a [u16],
-    homes: &[u8],
-    rows: &'a [u16],
-    c: &mut [u32],
-    d: &mut [[u32; Network::LANES]],
-    w: &mut [[u32; Network::LANES]],
-    alts: &mut [[u8; Network::MOST_NODES]],
-    out: &mut [u8],
-)
-    requires { ⌜ AcceptedSet (setWith net (lists (now a) (now b) (now weights) (now homes) (now rows))) ⌝ }
-    requires { ⌜ Work (setWith net (lists (now a) (now b) (now weights) (now homes) (now rows))) (now c) (now d) (now w) ⌝ }
-    requires { ⌜ (length (now alts) ≡ net .n) × (length (now out) ≡ (net .k + 1) * (net .n * net .n)) ⌝ }
-    ensures { λ _. ⌜ AllAdded (setWith net (lists (now (a .entry)) (now (b .entry)) (now (weights .entry)) (now (homes .entry)) (now (rows .entry)))) (now (out .exit)) (now (alts .exit)) ⌝ }
-{
-    let n = net.n as usize;
-    let size = n * n;
-    let k = net.k;
-    let mut i: u8 = 0;
-    let mut at: usize = 0;
-    while i <= k {
-        topology_at(net, a, b, weights, homes, rows, i, c, d, w, alts, out, at);
-        at += size;
-        i += 1;
-    }
-}
-
-fn copy_row(r: &[u8; Network::MOST_NODES], out: &mut [u8])
-    requires { ⌜ length (now out) ≤ 32 ⌝ }
-    ensures { λ _. ⌜ now (out .exit) ≡ upTo (entry (now (r .entry))) (length (now (out .entry))) ⌝ }
-{
-    let mut v: usize = 0;
-    while v < out.len() {
-        out[v] = r[v];
-        v += 1;
-    }
-}
-
-// The alternates, one row after the other.
-fn copy_rows(alts: &[[u8; Network::MOST_NODES]], out: &mut [u8])
-    requires { ⌜ (length (now alts) ≤ 32) × (length (now out) ≡ length (now alts) * length (now alts)) ⌝ }
-    ensures { λ _. ⌜ now (out .exit) ≡ flat (entriesOf (now (alts .entry)) (length (now (alts .entry)))) (length (now (alts .entry))) ⌝ }
-{
-    let n = alts.len();
-    let mut u: usize = 0;
-    let mut at: usize = 0;
-    while u < n {
-        let to = at + n;
-        let r = alts[u];
-        copy_row(&r, &mut out[at..to]);
-        at = to;
-        u += 1;
-    }
-}
-
-// Next hops, then alternates.
-fn all_tables<'a>(
-    net: Network,
-    a: &[u8],
-    b: &[u8],
-    weights: &'a [u16],
-    homes: &[u8],
-    rows: &'a [u16],
-    c: &mut [u32],
-    d: &mut [[u32; Network::LANES]],
-    w: &mut [[u32; Network::LANES]],
-    alts: &mut [[u8; Network::MOST_NODES]],
-    out: &mut [u8],
-)
-    requires { ⌜ AcceptedSet (setWith net (lists (now a) (now b) (now weights) (now homes) (now rows))) ⌝ }
-    requires { ⌜ Work (setWith net (lists (now a) (now b) (now weights) (now homes) (now rows))) (now c) (now d) (now w) ⌝ }
-    requires { ⌜ (length (now alts) ≡ net .n) × (length (now out) ≡ tablesLength net) ⌝ }
-    ensures { λ _. ⌜ now (out .exit) ≡ tableBytes (setWith net (lists (now (a .entry)) (now (b .entry)) (now (weights .entry)) (now (homes .entry)) (now (rows .entry)))) ⌝ }
-{
-    let n = net.n as usize;
-    let split = out.len() - n * n;
-    topologies(
-        net,
-        a,
-        b,
-        weights,
-        homes,
-        rows,
-        c,
-        d,
-        w,
-        alts,
-        &mut out[..split],
-    );
-    copy_rows(alts, &mut out[split..]);
-}
-
-// The same in the first entries and rows of lists that may be longer.
-fn in_room<'a>(
-    net: Network,
-    a: &[u8],
-    b: &[u8],
-    weights: &'a [u16],
-    homes: &[u8],
-    rows: &'a [u16],
-    c: &mut [u32],
-    d: &mut [[u32; Network::LANES]],
-    w: &mut [[u32; Network::LANES]],
-    alts: &mut [[u8; Network::MOST_NODES]],
-    out: &mut [u8],
-)
-    requires { ⌜ AcceptedSet (setWith net (lists (now a) (now b) (now weights) (now homes) (now rows))) ⌝ }
-    requires { ⌜ Roomy (net .m) (net .n) (length (now c)) (length (now d)) (length (now w)) (length (now alts)) ⌝ }
+    requires { ⌜ Held (now file) net (lists (now a) (now b) (now weights) (now homes) (now rows)) ⌝ }
     requires { ⌜ length (now out) ≡ tablesLength net ⌝ }
-    ensures { λ _. ⌜ now (out .exit) ≡ tableBytes (setWith net (lists (now (a .entry)) (now (b .entry)) (now (weights .entry)) (now (homes .entry)) (now (rows .entry)))) ⌝ }
+    ensures { λ _. ⌜ now (out .exit) ≡ tableBytes (setOf (now (file .entry))) ⌝ }
+{
+    fill_tables(net, a, b, weights, homes, rows, out);
+}
+
+// Lists that are exactly as long as the counts say.
+fn from_lists(
+    file: &[u8],
+    net: Network,
+    a: &mut [u8],
+    b: &mut [u8],
+    weights: &mut [u16],
+    homes: &mut [u8],
+    rows: &mut [u16],
+    out: &mut [u8],
+)
+    requires { ⌜ check (now file) ≡ Accepted ⌝ }
+    requires { ⌜ net ≡ headerOf (now file) ⌝ }
+    requires { ⌜ Exact net (lists (now a) (now b) (now weights) (now homes) (now rows)) ⌝ }
+    requires { ⌜ length (now out) ≡ tablesLength net ⌝ }
+    ensures { λ _. ⌜ now (out .exit) ≡ tableBytes (setOf (now (file .entry))) ⌝ }
+{
+    lists_into(file, net, a, b, weights, homes, rows);
+    by_lists(file, net, a, b, weights, homes, rows, out);
+}
+
+// Lists that are long enough for every set: their parts that the counts ask for.
+fn in_parts(
+    file: &[u8],
+    net: Network,
+    a: &mut [u8],
+    b: &mut [u8],
+    weights: &mut [u16],
+    homes: &mut [u8],
+    rows: &mut [u16],
+    out: &mut [u8],
+)
+    requires { ⌜ check (now file) ≡ Accepted ⌝ }
+    requires { ⌜ net ≡ headerOf (now file) ⌝ }
+    requires { ⌜ Wide (lists (now a) (now b) (now weights) (now homes) (now rows)) ⌝ }
+    requires { ⌜ length (now out) ≡ tablesLength net ⌝ }
+    ensures { λ _. ⌜ now (out .exit) ≡ tableBytes (setOf (now (file .entry))) ⌝ }
 {
     let m = net.m as usize;
     let n = net.n as usize;
-    all_tables(
+    let entries = row_entries(net);
+    from_lists(
+        file,
         net,
-        a,
-        b,
-        weights,
-        homes,
-        rows,
-        &mut c[..m],
-        &mut d[..n],
-        &mut w[..n],
-        &mut alts[..n],
+        &mut a[..m],
+        &mut b[..m],
+        &mut weights[..m],
+        &mut homes[..n],
+        &mut rows[..entries],
         out,
     );
 }
 
-// The tables of an accepted set that is held as lists.
-pub fn fill_tables<'a>(
-    net: Network,
-    a: &[u8],
-    b: &[u8],
-    weights: &'a [u16],
-    homes: &[u8],
-    rows: &'a [u16],
-    out: &mut [u8],
-)
-    requires { ⌜ AcceptedSet (setWith net (lists (now a) (now b) (now weights) (now homes) (now rows))) ⌝ }
-    requires { ⌜ length (now out) ≡ tablesLength net ⌝ }
-    ensures { λ _. ⌜ now (out .exit) ≡ tableBytes (setWith net (lists (now (a .entry)) (now (b .entry)) (now (weights .entry)) (now (homes .entry)) (now (rows .entry)))) ⌝ }
+fn ends() -> [u8; Network::MOST_LINKS]
+    ensures { λ r. ⌜ 128 ≡ length r ⌝ }
 {
-    let row = [0u32; Network::LANES];
-    let bytes = [0u8; Network::MOST_NODES];
-    let mut c = [0u32; Network::MOST_LINKS];
-    let mut d = [row; Network::MOST_NODES];
-    let mut w = [row; Network::MOST_NODES];
-    let mut alts = [bytes; Network::MOST_NODES];
-    in_room(
+    [0; Network::MOST_LINKS]
+}
+
+fn link_weights() -> [u16; Network::MOST_LINKS]
+    ensures { λ r. ⌜ 128 ≡ length r ⌝ }
+{
+    [0; Network::MOST_LINKS]
+}
+
+fn nodes() -> [u8; Network::MOST_NODES]
+    ensures { λ r. ⌜ 32 ≡ length r ⌝ }
+{
+    [0; Network::MOST_NODES]
+}
+
+fn backup_weights() -> [u16; Network::MOST_ROW_WEIGHTS]
+    ensures { λ r. ⌜ 4096 ≡ length r ⌝ }
+{
+    [0; Network::MOST_ROW_WEIGHTS]
+}
+
+// The tables of an accepted set's file, into room of their length.
+pub fn fill(file: &[u8], net: Network, out: &mut [u8])
+    requires { ⌜ check (now file) ≡ Accepted ⌝ }
+    requires { ⌜ net ≡ headerOf (now file) ⌝ }
+    requires { ⌜ length (now out) ≡ tablesLength net ⌝ }
+    ensures { λ _. ⌜ now (out .exit) ≡ tableBytes (setOf (now (file .entry))) ⌝ }
+{
+    let mut a = ends();
+    let mut b = ends();
+    let mut weights = link_weights();
+    let mut homes = nodes();
+    let mut rows = backup_weights();
+    in_parts(
+        file,
         net,
-        a,
-        b,
-        weights,
-        homes,
-        rows,
-        &mut c,
-        &mut d,
-        &mut w,
-        &mut alts,
+        &mut a,
+        &mut b,
+        &mut weights,
+        &mut homes,
+        &mut rows,
         out,
     );
+}
+
+// ---- the entry
+
+fn tables_verdict(file: &[u8], room: usize) -> Verdict
+    ensures { λ r. ⌜ r ≡ tablesVerdict (now (file .entry)) room ⌝ }
+{
+    let v = checker::verdict(file);
+    let long = tables_length(header(file));
+    then(v, need_room(long, room))
+}
+
+// The tables of a set's file.
+pub fn tables(file: &[u8], out: &mut [u8]) -> LengthAnswer
+    ensures { λ r. ⌜ Promise tablesEntry (now (file .entry)) (now (out .entry)) r (now (out .exit)) ⌝ }
+{
+    let v = tables_verdict(file, out.len());
+    match v {
+        Verdict::Accepted => {
+            let net = header(file);
+            let long = tables_length(net);
+            fill(file, net, &mut out[..long]);
+            LengthAnswer::Length(long)
+        }
+        Verdict::Refused { number, place } => LengthAnswer::Refused { number, place },
+    }
 }

@@ -7,8 +7,8 @@ mod draft; // draft.rt: the judgement of the records
 pub mod store; // store.rt: the bytes of a set
 
 use housefile::rule;
-use order::need_room;
-use order::then;
+use needs::need_room;
+use needs::then;
 use rules::LengthAnswer;
 use rules::Network;
 use rules::Verdict;

@@ -1,0 +1,33 @@
+use Rattle.burnishpeg.proofs.Laws.{words}
+use borrow.Author.Needs.{needs}
+use Rattle.burnishpeg.proofs.letter_of.Statement.{statement}
+use Rattle.burnishpeg.proofs.letter_of.Tie as tie
+
+enum-told : tie.Need-enum-told
+enum-told c = search needs
+
+enum-told-2 : tie.Need-enum-told-2
+enum-told-2 c = search needs
+
+enum-told-3 : tie.Need-enum-told-3
+enum-told-3 c = search needs
+
+enum-told-4 : tie.Need-enum-told-4
+enum-told-4 c = search needs
+
+returns : tie.Need-returns
+returns c = (search words, search needs)
+
+returns-2 : tie.Need-returns-2
+returns-2 c = (search words, search needs)
+
+returns-3 : tie.Need-returns-3
+returns-3 c = (search words, search needs)
+
+returns-4 : tie.Need-returns-4
+returns-4 c = (search words, search needs)
+
+pub letter-of-spec : {M : Type 1} → statement M
+letter-of-spec =
+    tie.close
+    (tie.spec enum-told enum-told-2 enum-told-3 enum-told-4 returns returns-2 returns-3 returns-4)

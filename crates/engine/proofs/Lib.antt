@@ -1,0 +1,3 @@
+-- Laws of the tables' stages.
+pub mod One
+pub mod Whole

@@ -1,0 +1,2 @@
+-- How the tables are put together, topology by topology.
+pub mod Stages

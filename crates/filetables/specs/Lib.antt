@@ -1,2 +1,0 @@
--- The lists between a file and its tables.
-pub mod Parts
