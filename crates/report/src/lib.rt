@@ -5,11 +5,11 @@ pub mod text; // text.rt: bytes, numbers and letters at a cursor
 pub mod seen; // seen.rt: what a detecting node sees
 pub mod lines; // lines.rt: the lines and the whole text
 
-use tables::tables;
 use housefile::header;
 use lines::write;
 use rules::LengthAnswer;
 use rules::Network;
+use tables::tables;
 use text::labelled;
 use text::put;
 ghost use mathlib.Core.Path.{_≡_};

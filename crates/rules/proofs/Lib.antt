@@ -1,6 +1,7 @@
 -- Laws of the definitions, and the theorems.
 pub mod Choices
 pub mod Numbers
+pub mod Sizes
 pub mod Rows
 pub mod Encoded
 pub mod Held

@@ -2,7 +2,9 @@
 // from them. What the words of 01 mean stands in specs/, in 01's order. Every other crate is code that is proved equal to
 // those definitions; this one promises that its sizes are the ones that the definitions give.
 ghost use mathlib.Core.Path.{_≡_};
-ghost use Rattle.rules.specs.Limits.{longest};
+ghost use Prim.Native.Nat.{_*_, _-_, _≤_, _<_};
+ghost use Rattle.rules.specs.Limits.{restrictedWeight, rowWeights, rowLength, homeRecords, fileLength, tablesLength, mostHops, trailRoom, longest};
+ghost use Rattle.rules.specs.Forwarding.{entryPlace};
 
 // The counts of a file's header, at the file's widths.
 pub struct Network {
@@ -103,6 +105,114 @@ impl Network {
             report: Network::LONGEST_REPORT,
         }
     }
+
+    // ---- sizes that follow from the counts, whatever they are
+
+    // How many home records there are: n, or none in a graph alone.
+    pub fn home_records(self) -> usize
+        ensures { λ r. ⌜ (r ≡ homeRecords self) × (r < 256) ⌝ }
+    {
+        if self.k == 0 { 0 } else { self.n as usize }
+    }
+
+    // How many weights a row has.
+    pub fn row_weights(self) -> usize
+        ensures { λ r. ⌜ (r ≡ rowWeights self) × (r < 65536) ⌝ }
+    {
+        self.m as usize
+    }
+
+    // How many weights the rows have together.
+    pub fn row_entries(self) -> usize
+        ensures { λ r. ⌜ r ≡ self .k * rowWeights self ⌝ }
+    {
+        times(self.k as usize, self.row_weights())
+    }
+
+    pub fn row_length(self) -> usize
+        ensures { λ r. ⌜ (r ≡ rowLength self) × (r < 262144) ⌝ }
+    {
+        Network::ROW_HEAD + Network::WEIGHT * self.row_weights()
+    }
+
+    // How long the file is.
+    pub fn file_length(self) -> usize
+        ensures { λ r. ⌜ r ≡ fileLength self ⌝ }
+    {
+        let links = Network::LINK * (self.m as usize);
+        let homes = Network::HOME * self.home_records();
+        let rows = times(self.k as usize, self.row_length());
+        Network::HEADER + links + homes + rows
+    }
+
+    // How many entries a table has.
+    pub fn table_entries(self) -> usize
+        ensures { λ r. ⌜ (r ≡ self .n * self .n) × (r < 65536) ⌝ }
+    {
+        times(self.n as usize, self.n as usize)
+    }
+
+    // How long the tables are.
+    pub fn tables_length(self) -> usize
+        ensures { λ r. ⌜ r ≡ tablesLength self ⌝ }
+    {
+        let table = self.table_entries();
+        times(self.k as usize + 1, table) + table
+    }
+
+    // Where the entry of table i for node u and node t stands in the tables.
+    pub fn entry_place(self, i: usize, u: u8, t: u8) -> usize
+        requires { ⌜ i < 65536 ⌝ }
+        ensures { λ r. ⌜ r ≡ entryPlace self i u t ⌝ }
+    {
+        let table = times(i, self.table_entries());
+        let row = times(u as usize, self.n as usize);
+        table + (row + (t as usize))
+    }
+
+    // The room that a trail is given: 2n - 2.
+    pub fn trail_room(self) -> usize
+        ensures { λ r. ⌜ r ≡ trailRoom self ⌝ }
+    {
+        let twice = 2 * (self.n as usize);
+        if twice < 2 {
+            return 0;
+        }
+        twice - 2
+    }
+
+    // The most hops of a run: 2n - 3.
+    pub fn most_hops(self) -> u8
+        requires { ⌜ (3 ≤ self .n) × (self .n ≤ 32) ⌝ }
+        ensures { λ r. ⌜ r ≡ mostHops self ⌝ }
+    {
+        2 * self.n - 3
+    }
+
+    // How many detections a report has: the ordered pairs of different nodes.
+    pub fn detections(self) -> usize
+        requires { ⌜ (3 ≤ self .n) × (self .n ≤ 32) ⌝ }
+        ensures { λ r. ⌜ r ≡ self .n * (self .n - 1) ⌝ }
+    {
+        let n = self.n as usize;
+        times(n, n - 1)
+    }
+
+    // The weight of a restricted link: 2 × m × wmax.
+    pub fn restricted_weight(self) -> u32
+        requires { ⌜ self .m ≤ 128 ⌝ }
+        ensures { λ r. ⌜ r ≡ restrictedWeight self ⌝ }
+    {
+        2 * (self.m as u32) * (self.wmax as u32)
+    }
+}
+
+// x × y, where both are small.
+fn times(x: usize, y: usize) -> usize
+    requires { ⌜ (x < 1048576) × (y < 1048576) ⌝ }
+    ensures { λ r. ⌜ (r ≡ x * y) × (r < 1099511627776) ⌝ }
+{
+    x * y
 }
 
 // What the judge and the check say: accepted, or refused with 01's number and place.
