@@ -1,11 +1,10 @@
--- Refusals 11 to 14 as the code gives them.
+-- Each need as the code asks it.
 use mathlib.Core.Path.{_≡_, refl, ap, _∙_}
 use mathlib.Core.Bool.{Bool, true, false}
-use Prim.Native.Nat.{ℕ, suc, _+_, _-_, _*_, _≤_, _<_}
-use native.Mathlib.Nat.{mul-le-mul}
+use Prim.Native.Nat.{ℕ, suc, _*_, _≤_, _<_}
 use native.Mathlib.Omega.{arith}
-use lib.Dec.{leb}
-use borrow.Author.Tests.{lt-leb, le-leb, eq-eqb, ne-eqb}
+use lib.Dec.{eqb, leb}
+use borrow.Author.Tests.{lt-leb, le-leb, leb-true, eq-eqb, ne-eqb}
 use Rattle.rules.specs.declared.Network.{Network}
 use Rattle.rules.specs.declared.Packet.{Packet}
 use Rattle.rules.specs.declared.Failure.{Failure}
@@ -13,10 +12,10 @@ use Rattle.rules.specs.declared.Failure.the-variants.{Nothing, Link, Node}
 use Rattle.rules.specs.declared.Verdict.{Verdict}
 use Rattle.rules.specs.declared.Verdict.the-variants.{Accepted, Refused}
 use Rattle.rules.specs.Basics.{if_then_else_, need}
-use Rattle.rules.specs.Limits.{tablesLength, mostHops, trailRoom}
-use Rattle.rules.specs.Judgement.{refuse, andThen, needSet, needFailure, needPacket, sourceNumber, needSource}
-use Rattle.rules.proofs.Choices.{need-lt, need-lt-no, need-le, need-le-no, refuse-ok, refuse-no, then-on, then-stop}
-use Rattle.needs.specs.Numbers.{packetNumber}
+use Rattle.rules.specs.Limits.{homeRecords, rowWeights}
+use Rattle.rules.specs.Judgement.{refuse, andThen, needSet, needGraph, needFailure, needPacket, needCap, sourceNumber, needSource}
+use Rattle.rules.proofs.Choices.{need-lt, need-lt-no, need-le, need-le-no, need-ok, refuse-zero, refuse-ok, refuse-no, then-on, then-stop}
+use Rattle.needs.specs.Numbers.{packetNumber, listsRule, listsVerdict}
 
 -- ---- one refusal each
 
@@ -24,6 +23,10 @@ use Rattle.needs.specs.Numbers.{packetNumber}
 refused-by : (t : Bool) (number place : ℕ) → t ≡ false → Refused (suc number) place ≡ refuse (need t (suc number) 0) place
 unfolding refuse need
 refused-by t number place e = rw e
+
+refused-first : (t : Bool) (number rest place : ℕ) → t ≡ false → Refused (suc number) place ≡ refuse (need t (suc number) rest) place
+unfolding refuse need
+refused-first t number rest place e = rw e
 
 accepted-by : (t : Bool) (number place : ℕ) → t ≡ true → Accepted ≡ refuse (need t number 0) place
 unfolding refuse need
@@ -91,38 +94,51 @@ pub source-up : (u : ℕ) (f : Failure) (v : ℕ) → f ≡ Node v → (v ≡ u 
 unfolding needSource sourceNumber refuse if_then_else_
 source-up u f v e d = rw (e, ne-eqb v u d)
 
-pub tables-long : (h : Network) (a b : ℕ) → a ≡ h .n * h .n → b ≡ (h .k + 1) * a → b + a ≡ tablesLength h
-unfolding tablesLength
-tables-long h a b e d = rw (d, e)
+-- ---- a graph, a cap
 
-pub trail-none : (h : Network) → 2 * h .n < 2 → 0 ≡ trailRoom h
-unfolding trailRoom
-trail-none h l = omega arith
+pub graph-some : (h : Network) → (h .k ≡ 0 → ⊥) → Refused 13 0 ≡ needGraph h
+unfolding needGraph
+graph-some h e = refused-by (eqb (h .k) 0) 12 0 (ne-eqb (h .k) 0 e)
 
-pub trail-some : (h : Network) → 2 ≤ 2 * h .n → 2 * h .n - 2 ≡ trailRoom h
-unfolding trailRoom
-trail-some h l = refl
+pub graph-only : (h : Network) → h .k ≡ 0 → Accepted ≡ needGraph h
+unfolding needGraph
+graph-only h e = accepted-by (eqb (h .k) 0) 13 0 (eq-eqb (h .k) 0 e)
 
-pub hops-most : (h : Network) → 2 * h .n - 3 ≡ mostHops h
-unfolding mostHops
-hops-most h = refl
+pub cap-low : (cap : ℕ) → cap < 1 → Refused 11 0 ≡ needCap cap
+unfolding needCap
+cap-low cap l = refused-first (leb 1 cap) 10 (need (leb cap 32) 11 0) 0 (lt-leb 1 cap l)
 
--- ---- products
+pub cap-high : (cap : ℕ) → 1 ≤ cap → 32 < cap → Refused 11 0 ≡ needCap cap
+unfolding needCap
+cap-high cap l g = refused-by (leb cap 32) 10 0 (lt-leb cap 32 g) ∙ ap (λ (x : ℕ). refuse x 0) (need-le 1 cap 11 (need (leb cap 32) 11 0) (need (leb cap 32) 11 0) l refl)
 
-pub small-product : (x y : ℕ) → x < 65536 → y < 65536 → x * y < 4294967296
-small-product x y p q =
-    let h : x * y ≤ 65535 * 65535 = mul-le-mul {n₂ = 65535} {m₂ = 65535} (omega arith) (omega arith) in
-    omega arith
+pub cap-given : (cap : ℕ) → 1 ≤ cap → cap ≤ 32 → Accepted ≡ needCap cap
+unfolding needCap
+cap-given cap l g = accepted-by (leb cap 32) 11 0 (le-leb cap 32 g) ∙ ap (λ (x : ℕ). refuse x 0) (need-le 1 cap 11 (need (leb cap 32) 11 0) (need (leb cap 32) 11 0) l refl)
 
-pub byte-square : (n : ℕ) → n < 256 → n * n < 65536
-byte-square n p =
-    let h : n * n ≤ 255 * 255 = mul-le-mul {n₂ = 255} {m₂ = 255} (omega arith) (omega arith) in
-    omega arith
+-- ---- lists
 
-pub product-fits : (x y : ℕ) → x < 65536 → y < 65536 → x * y < 18446744073709551616
-product-fits x y p q = omega (arith, small-product x y p q)
+pub lists-are : (number : ℕ) (h : Network) (a b weights homes rows nodes entries short : ℕ) (v : Verdict) → short ≡ listsRule number h a b weights homes rows nodes entries
+    → nodes ≡ homeRecords h → entries ≡ h .k * rowWeights h → v ≡ refuse short 0 → v ≡ listsVerdict number h a b weights homes rows
+unfolding listsVerdict
+lists-are number h a b weights homes rows nodes entries short v e n k d = d ∙ rw (e, n, k)
 
-pub bytes-fit : (x y : ℕ) → x < 256 → y < 256 → x * y < 18446744073709551616
-bytes-fit x y p q = product-fits x y (omega arith) (omega arith)
+-- what an accepted need of lists says
+pub record ListsLong (h : Network) (a b weights homes rows : ℕ) : Type 0 where
+  pub a-long : h .m ≤ a
+  pub b-long : h .m ≤ b
+  pub weights-long : h .m ≤ weights
+  pub homes-long : homeRecords h ≤ homes
+  pub rows-long : h .k * rowWeights h ≤ rows
 
-pub ruleset orders = (refuse-ok, refuse-no, then-accepted, then-refused, set-none, set-some, room-short, room-enough, down-nothing, down-link, down-no-link, down-node, down-no-node, packet-is, source-nothing, source-link, source-failed, source-up, tables-long, trail-none, trail-some, hops-most, small-product, byte-square, product-fits, bytes-fit, need-lt, need-lt-no, need-le, need-le-no)
+pub lists-long : (number : ℕ) (h : Network) (a b weights homes rows : ℕ) → listsVerdict (suc number) h a b weights homes rows ≡ Accepted → ListsLong h a b weights homes rows
+unfolding listsVerdict listsRule
+lists-long number h a b weights homes rows e =
+    let p1 = need-ok _ _ _ (refuse-zero _ _ e) in
+    let p2 = need-ok _ _ _ (p1 .1) in
+    let p3 = need-ok _ _ _ (p2 .1) in
+    let p4 = need-ok _ _ _ (p3 .1) in
+    let p5 = need-ok _ _ _ (p4 .1) in
+    record { a-long = leb-true _ _ (p1 .0); b-long = leb-true _ _ (p2 .0); weights-long = leb-true _ _ (p3 .0); homes-long = leb-true _ _ (p4 .0); rows-long = leb-true _ _ (p5 .0) }
+
+pub ruleset orders = (refuse-ok, refuse-no, then-accepted, then-refused, set-none, set-some, room-short, room-enough, down-nothing, down-link, down-no-link, down-node, down-no-node, packet-is, source-nothing, source-link, source-failed, source-up, graph-some, graph-only, cap-low, cap-high, cap-given, need-lt, need-lt-no, need-le, need-le-no)

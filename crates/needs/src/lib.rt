@@ -1,16 +1,15 @@
-// Refusals 11 to 14 as verdicts, and verdicts one after the other, in the order of 01. Each function promises the published
-// verdict; the entries that stand above it put them in 01's order.
+// What an entry needs beyond the rules of the file, each need once: a set or a graph (13), a packet, a failure and a cap within their
+// ranges (11), a source that is not the failed node (12), lists that are long enough (14, or 1 for the writer's) and room (14); and
+// verdicts put in order, the first that refuses. Each function promises the published verdict; an entry says which it asks, and when.
 use rules::Failure;
 use rules::Network;
 use rules::Packet;
 use rules::Verdict;
 ghost use mathlib.Core.Path.{_≡_};
-ghost use Prim.Native.Nat.{_+_, _*_, _<_, _≤_};
 ghost use lib.Dec.{leb};
 ghost use Rattle.rules.specs.Basics.{need};
-ghost use Rattle.rules.specs.Limits.{tablesLength, mostHops, trailRoom};
-ghost use Rattle.rules.specs.Judgement.{refuse, andThen, needSet, needFailure, needPacket, needSource};
-ghost use Rattle.needs.specs.Numbers.{packetNumber};
+ghost use Rattle.rules.specs.Judgement.{refuse, andThen, needSet, needGraph, needFailure, needPacket, needCap, needSource};
+ghost use Rattle.needs.specs.Numbers.{packetNumber, listsRule, listsVerdict};
 
 // A refusal with this number and place, or acceptance where the number is 0.
 pub fn refuse(number: u8, place: usize) -> Verdict
@@ -42,6 +41,38 @@ pub fn need_set(net: Network) -> Verdict
     if net.k == 0 {
         return Verdict::Refused {
             number: 13,
+            place: 0,
+        };
+    }
+    Verdict::Accepted
+}
+
+// 13: a graph alone is needed.
+pub fn need_graph(net: Network) -> Verdict
+    ensures { λ r. ⌜ r ≡ needGraph net ⌝ }
+{
+    if net.k != 0 {
+        return Verdict::Refused {
+            number: 13,
+            place: 0,
+        };
+    }
+    Verdict::Accepted
+}
+
+// 11: a cap of 1 to 32 is needed.
+pub fn need_cap(cap: u8) -> Verdict
+    ensures { λ r. ⌜ r ≡ needCap cap ⌝ }
+{
+    if cap < 1 {
+        return Verdict::Refused {
+            number: 11,
+            place: 0,
+        };
+    }
+    if Network::MAX_CAP < cap {
+        return Verdict::Refused {
+            number: 11,
             place: 0,
         };
     }
@@ -114,44 +145,53 @@ pub fn need_room(long: usize, room: usize) -> Verdict
     Verdict::Accepted
 }
 
-// x × y, where both are small.
-pub fn times(x: usize, y: usize) -> usize
-    requires { ⌜ (x < 65536) × (y < 65536) ⌝ }
-    ensures { λ r. ⌜ (r ≡ x * y) × (r < 4294967296) ⌝ }
+// The number of a list that is too short for what the counts need: an entry for each link in the first three, `nodes` homes and
+// `entries` weights of rows.
+fn lists_number(
+    number: u8,
+    net: Network,
+    a: usize,
+    b: usize,
+    weights: usize,
+    homes: usize,
+    rows: usize,
+    nodes: usize,
+    entries: usize,
+) -> u8
+    ensures { λ r. ⌜ r ≡ listsRule number net a b weights homes rows nodes entries ⌝ }
 {
-    x * y
-}
-
-// How many entries a table has.
-pub fn square(n: u8) -> usize
-    ensures { λ r. ⌜ (r ≡ n * n) × (r < 65536) ⌝ }
-{
-    (n as usize) * (n as usize)
-}
-
-// How long a set's tables are.
-pub fn tables_length(net: Network) -> usize
-    ensures { λ r. ⌜ r ≡ tablesLength net ⌝ }
-{
-    let table = square(net.n);
-    times(net.k as usize + 1, table) + table
-}
-
-// The room that a trail is given: 2n - 2.
-pub fn trail_room(net: Network) -> usize
-    ensures { λ r. ⌜ r ≡ trailRoom net ⌝ }
-{
-    let twice = 2 * (net.n as usize);
-    if twice < 2 {
-        return 0;
+    if a < net.m as usize {
+        return number;
     }
-    twice - 2
+    if b < net.m as usize {
+        return number;
+    }
+    if weights < net.m as usize {
+        return number;
+    }
+    if homes < nodes {
+        return number;
+    }
+    if rows < entries {
+        return number;
+    }
+    0
 }
 
-// The most hops of a run: 2n - 3.
-pub fn most_hops(net: Network) -> u8
-    requires { ⌜ (3 ≤ net .n) × (net .n ≤ 32) ⌝ }
-    ensures { λ r. ⌜ r ≡ mostHops net ⌝ }
+// Lists of these lengths hold what the counts need, else this number: 14 where they are lent, 1 where they are given.
+pub fn need_lists(
+    number: u8,
+    net: Network,
+    a: usize,
+    b: usize,
+    weights: usize,
+    homes: usize,
+    rows: usize,
+) -> Verdict
+    ensures { λ r. ⌜ r ≡ listsVerdict number net a b weights homes rows ⌝ }
 {
-    2 * net.n - 3
+    let nodes = net.home_records();
+    let entries = net.row_entries();
+    let short = lists_number(number, net, a, b, weights, homes, rows, nodes, entries);
+    refuse(short, 0)
 }

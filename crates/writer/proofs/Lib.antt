@@ -1,4 +1,3 @@
 -- What the functions' proofs cite.
 pub mod Stores
-pub mod Drafts
 pub mod Verdicts

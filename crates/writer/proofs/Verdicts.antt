@@ -1,113 +1,148 @@
--- The writer's verdict test by test, and the promise of its entry.
-use mathlib.Core.Path.{_≡_, sym, ap, _∙_}
-use mathlib.Core.List.{List, [], _∷_}
-use Prim.Native.Nat.{ℕ, _≤_}
+-- What a laid file answers and leaves, and the promise of the entry.
+use mathlib.Core.Path.{_≡_, refl, sym, ap, ap₂, subst, _∙_}
+use mathlib.Core.List.{List, [], _∷_, _++_, append-nil}
+use Prim.Native.Nat.{ℕ, _+_, _≤_}
 use native.Mathlib.Omega.{arith}
 use lib.Dec.{leb}
-use lib.ListN.{length}
+use lib.ListN.{length, take, drop, drop-of-length-le}
+use lib.Seq.{take-all, length-take-le}
 use borrow.Author.Tests.{leb-true}
 use Rattle.rules.specs.declared.Network.{Network}
 use Rattle.rules.specs.declared.Verdict.{Verdict}
 use Rattle.rules.specs.declared.Verdict.the-variants.{Accepted, Refused}
+use Rattle.rules.specs.declared.LengthAnswer.{LengthAnswer}
 use Rattle.rules.specs.declared.LengthAnswer.the-variants as answer
 use Rattle.rules.specs.Basics.{need, laid}
-use Rattle.rules.specs.Limits.{needCounts, homeRecords, fileLength}
-use Rattle.rules.specs.File.{Set, encode, rowStart, headerOf}
-use Rattle.rules.specs.Judgement.{refuse, andThen, headerNumber, records, judge, needRoom}
+use Rattle.rules.specs.Limits.{needCounts, fileLength, longest}
+use Rattle.rules.specs.File.{encode}
+use Rattle.rules.specs.Judgement.{refuse, andThen, judge, needRoom}
 use Rattle.rules.specs.Answers.{tell, lengthTells}
 use Rattle.rules.specs.Entries.{Promise, onAccept, Lists, lists, needLists, setWith, writeEntry}
-use Rattle.rules.proofs.Choices.{need-ok, refuse-ok, refuse-no, refuse-zero, then-ok, then-no, then-second}
-use Rattle.rules.proofs.Encoded.{encode-long, header-back, header-marked}
-use Rattle.rules.proofs.Records.{HeaderMeets, counts-ok, header-zero}
-use Rattle.housefile.specs.Rules.{listsRule}
-use Rattle.writer.specs.Parts.{recordsThenRoom, writeVerdict, put}
-use Rattle.writer.proofs.Stores.{put-laid}
+use Rattle.rules.proofs.Choices.{need-ok, refuse-zero, then-ok, then-no, then-first, then-second}
+use Rattle.rules.proofs.Encoded.{encode-long}
+use Rattle.rules.proofs.Records.{counts-ok}
+use Rattle.rules.proofs.Accepted.{length-bound}
+use Rattle.slices.specs.Stores.{put}
+use Rattle.slices.proofs.Stores.{put-laid}
+use Rattle.needs.specs.Numbers.{listsRule, listsVerdict}
+use Rattle.rooms.proofs.Longest.{longest-file}
+use Rattle.writer.specs.Parts.{givenVerdict, laidVerdict, Copied}
 
--- ---- the records, then the room
+then-assoc : (u v w : Verdict) → andThen u (andThen v w) ≡ andThen (andThen u v) w
+unfolding andThen
+then-assoc Accepted v w = refl
+then-assoc (Refused number place) v w = refl
 
-pub room-after : (h : Network) (d : Lists) (wanted long : ℕ) (v w r : Verdict) → v ≡ records (encode (setWith h d)) h → w ≡ refuse (need (leb wanted long) 14 0) 0
-    → wanted ≡ fileLength h → r ≡ andThen v w → r ≡ recordsThenRoom h d long
-unfolding recordsThenRoom
-room-after h d wanted long v w r p q e t = t ∙ rw (p, q, e)
+-- ---- before anything is laid
 
--- ---- the counts and the lists before them
+pub given-is : (h : Network) (counts a b weights homes rows : ℕ) (v w r : Verdict) → counts ≡ needCounts h 0 → v ≡ refuse counts 0 → w ≡ listsVerdict 1 h a b weights homes rows
+    → r ≡ andThen v w → r ≡ givenVerdict h a b weights homes rows
+unfolding givenVerdict
+given-is h counts a b weights homes rows v w r e p q d = d ∙ rw (p, q, e)
 
--- with counts within their limits, the judge of the file comes to its records
-judge-draft : (S : Set) → needCounts (S .net) 0 ≡ 0 → judge (encode S) ≡ records (encode S) (S .net)
-unfolding judge
-judge-draft S e =
-    let back : headerOf (encode S) ≡ S .net = header-back S in
-    let fits : needCounts (headerOf (encode S)) 0 ≡ 0 = ap (λ (x : Network). needCounts x 0) back ∙ e in
-    let meets : HeaderMeets (encode S) = record { marked = header-marked S; limits = counts-ok (headerOf (encode S)) 0 fits .0; long = encode-long S ∙ ap fileLength (sym back) } in
-    then-ok _ _ (sym (refuse-ok (headerNumber (encode S)) 0 (header-zero (encode S) meets))) ∙ ap (records (encode S)) back
+pub given-taken : (h : Network) (a b weights homes rows : ℕ) (v : Verdict) → v ≡ givenVerdict h a b weights homes rows → v ≡ Accepted → givenVerdict h a b weights homes rows ≡ Accepted
+given-taken h a b weights homes rows v e t = sym e ∙ t
 
-module _ (h : Network) (d : Lists) (room counts : ℕ) (e : counts ≡ needCounts h 0) where
-  pub counts-refused : (counts ≡ 0 → ⊥) → Refused counts 0 ≡ writeVerdict h d room
-  unfolding writeVerdict
-  counts-refused z = sym (then-no _ _ counts 0 (ap (λ (x : ℕ). refuse x 0) (sym e) ∙ sym (refuse-no counts 0 z)))
+-- counts within their limits have a file that the longest room holds
+module _ (h : Network) (a b weights homes rows long : ℕ) (e : givenVerdict h a b weights homes rows ≡ Accepted) (q : long ≡ fileLength h) where
+  room-there : long ≤ 9192
+  unfolding givenVerdict
+  room-there = let bound = length-bound h (counts-ok h 0 (refuse-zero _ 0 (then-first _ _ e)) .0) in omega arith
 
-  counts-taken : counts ≡ 0 → refuse (needCounts h 0) 0 ≡ Accepted
-  counts-taken z = ap (λ (x : ℕ). refuse x 0) (sym e) ∙ sym (refuse-ok counts 0 z)
+  pub room-held : (room : List ℕ) → longest .file ≡ length room → long ≤ length room
+  room-held room r = omega (arith, room-there, longest-file)
 
-module _ (h : Network) (a b weights homes rows : List ℕ) (room counts : ℕ) (e : counts ≡ needCounts h 0) (z : counts ≡ 0) (number n all : ℕ)
-    (s : number ≡ listsRule 1 h (length a) (length b) (length weights) (length homes) (length rows) n all) (p : n ≡ homeRecords h) (q : all ≡ rowStart h (h .k)) where
-  abbrev given : Lists
-  given = lists a b weights homes rows
+  part-long : (room : List ℕ) → longest .file ≡ length room → length (take long room) ≡ long
+  part-long room r = length-take-le long room (room-held room r)
 
-  short-is : refuse number 0 ≡ needLists 1 h given
-  unfolding needLists listsRule rowStart
-  short-is = rw (s, p, q)
+  pub part-counted : (room : List ℕ) → longest .file ≡ length room → long ≡ length (take long room)
+  part-counted room r = sym (part-long room r)
 
-  pub lists-refused : (number ≡ 0 → ⊥) → Refused number 0 ≡ writeVerdict h given room
-  unfolding writeVerdict
-  lists-refused r = sym (then-ok _ _ (counts-taken h given room counts e z) ∙ then-no _ _ number 0 (sym short-is ∙ sym (refuse-no number 0 r)))
+  pub part-is : (room : List ℕ) → longest .file ≡ length room → length (take long room) ≡ fileLength h
+  part-is room r = part-long room r ∙ q
 
-  pub lists-taken : (v : Verdict) → v ≡ recordsThenRoom h given room → number ≡ 0 → v ≡ writeVerdict h given room
-  unfolding writeVerdict recordsThenRoom setWith
-  lists-taken v w r =
-      w
-      ∙ sym (then-ok _ _ (counts-taken h given room counts e z)
-      ∙ then-ok _ _ (sym short-is ∙ sym (refuse-ok number 0 r))
-      ∙ ap (λ (x : Verdict). andThen x (refuse (need (leb (fileLength h) room) 14 0) 0)) (judge-draft (setWith h given) (sym e ∙ z)))
+pub ruleset own-room = (room-held, part-counted, part-is)
 
-pub ruleset verdicts = (counts-refused, lists-refused, lists-taken)
+-- ---- a laid file
+
+module _ (s before : List ℕ) (long wanted : ℕ) (u w v : Verdict) (eu : u ≡ judge s) (ew : w ≡ refuse (need (leb (length s) (length before)) 14 0) 0) (ev : v ≡ andThen u w) where
+  verdict-is : v ≡ laidVerdict s (length before)
+  unfolding laidVerdict
+  verdict-is = ev ∙ rw (eu, ew)
+
+  -- an accepted one has room
+  pub copy-fits : v ≡ Accepted → length s ≤ length before
+  unfolding laidVerdict
+  copy-fits t = leb-true _ _ (need-ok (leb (length s) (length before)) 13 0 (refuse-zero _ 0 (then-second _ _ (sym verdict-is ∙ t))) .0)
+
+  pub copied-refused : (number place : ℕ) → v ≡ Refused number place → Copied s before (answer.Refused number place) before
+  unfolding lengthTells tell onAccept
+  copied-refused number place t =
+      let same : laidVerdict s (length before) ≡ Refused number place = sym verdict-is ∙ t in
+      record { answer = rw same; lent = rw same }
+
+  pub copied-taken : (n bytes : ℕ) (after : List ℕ) → v ≡ Accepted → n ≡ length s → bytes ≡ n → after ≡ take n s ++ drop n before → Copied s before (answer.Length bytes) after
+  unfolding lengthTells tell onAccept laid
+  copied-taken n bytes after t en eb ea =
+      let same : laidVerdict s (length before) ≡ Accepted = sym verdict-is ∙ t in
+      record { answer = rw (same, eb, en); lent = rw same (ea ∙ rw en (ap (λ (x : List ℕ). x ++ drop (length s) before) (take-all (length s) s (omega arith)))) }
+
+pub ruleset copying = (copy-fits, copied-refused, copied-taken)
+
+-- ---- the lists laid
+
+-- room that is exactly as long as what is laid in it becomes that
+room-is : (h : Network) (d : Lists) (room : List ℕ) → length room ≡ fileLength h → put room 0 (encode (setWith h d)) ≡ encode (setWith h d)
+unfolding laid setWith
+room-is h d room e =
+    let bytes : List ℕ = encode (setWith h d) in
+    let long : length bytes ≡ fileLength h = encode-long (setWith h d) in
+    put-laid bytes room (omega arith) ∙ ap (λ (x : List ℕ). bytes ++ x) (drop-of-length-le room {i = length bytes} (omega arith)) ∙ append-nil bytes
+
+pub laid-is : (h : Network) (a b weights homes rows room filled before : List ℕ) (r : LengthAnswer) (after : List ℕ) → length room ≡ fileLength h
+    → filled ≡ put room 0 (encode (setWith h (lists a b weights homes rows))) → Copied filled before r after
+    → Copied (encode (setWith h (lists a b weights homes rows))) before r after
+laid-is h a b weights homes rows room filled before r after e p c =
+    subst (λ (x : List ℕ). Copied x before r after) (p ∙ room-is h (lists a b weights homes rows) room e) c
 
 -- ---- the promise
 
-module _ (h : Network) (a b weights homes rows file : List ℕ) (v : Verdict) (e : v ≡ writeVerdict h (lists a b weights homes rows) (length file)) where
-  abbrev lent : Lists
-  lent = lists a b weights homes rows
+module _ (h : Network) (a b weights homes rows file : List ℕ) (v : Verdict) (e : v ≡ givenVerdict h (length a) (length b) (length weights) (length homes) (length rows)) where
+  abbrev given : Lists
+  given = lists a b weights homes rows
 
-  entry-verdict : writeEntry .verdict (record { net = h; lists = lent }) file ≡ v
-  unfolding writeEntry writeVerdict needRoom
-  entry-verdict = sym e
+  -- the entry's verdict: what is asked first, then the file and its room
+  entry-verdict : writeEntry .verdict (record { net = h; lists = given }) file
+      ≡ andThen (refuse (needCounts h 0) 0) (andThen (needLists 1 h given) (laidVerdict (encode (setWith h given)) (length file)))
+  unfolding writeEntry laidVerdict needRoom setWith
+  entry-verdict =
+      ap (λ (x : ℕ). andThen (refuse (needCounts h 0) 0) (andThen (needLists 1 h given) (andThen (judge (encode (setWith h given))) (refuse (need (leb x (length file)) 14 0) 0))))
+      (sym (encode-long (setWith h given)))
 
-  -- an accepted file has room
-  room-there : v ≡ Accepted → fileLength h ≤ length file
-  unfolding writeVerdict
-  room-there t =
-      let r = then-second _ _ (then-second _ _ (then-second _ _ (sym e ∙ t))) in
-      leb-true _ _ (need-ok (leb (fileLength h) (length file)) 13 0 (refuse-zero _ 0 r) .0)
+  lists-same : listsVerdict 1 h (length a) (length b) (length weights) (length homes) (length rows) ≡ needLists 1 h given
+  unfolding listsVerdict listsRule needLists
+  lists-same = refl
 
-  pub write-refused : (number place : ℕ) → v ≡ Refused number place → Promise writeEntry (record { net = h; lists = lent }) file (answer.Refused number place) file
-  unfolding writeEntry lengthTells tell onAccept
+  pub write-refused : (number place : ℕ) → v ≡ Refused number place → Promise writeEntry (record { net = h; lists = given }) file (answer.Refused number place) file
+  unfolding writeEntry lengthTells tell onAccept givenVerdict
   write-refused number place t =
-      let same = entry-verdict ∙ t in
+      let same : writeEntry .verdict (record { net = h; lists = given }) file ≡ Refused number place =
+      entry-verdict ∙ ap (λ (x : Verdict). andThen (refuse (needCounts h 0) 0) (andThen x (laidVerdict (encode (setWith h given)) (length file)))) (sym lists-same)
+      ∙ then-assoc _ _ _ ∙ then-no _ _ number place (sym e ∙ t) in
       record {
         answer = sym (ap (λ (x : Verdict). tell x (fileLength h ∷ [])) same);
-        lent = sym (ap (λ (x : Verdict). onAccept x (laid (encode (setWith h lent)) file) file) same);
+        lent = sym (ap (λ (x : Verdict). onAccept x (laid (encode (setWith h given)) file) file) same);
       }
 
-  pub write-done : (left : List ℕ) (bytes : ℕ) → left ≡ put file 0 (encode (setWith h lent)) → bytes ≡ fileLength h → v ≡ Accepted
-      → Promise writeEntry (record { net = h; lists = lent }) file (answer.Length bytes) left
-  unfolding writeEntry lengthTells tell onAccept setWith
-  write-done left bytes p q t =
-      let same = entry-verdict ∙ t in
-      let room = room-there t in
+  pub write-taken : (r : LengthAnswer) (after : List ℕ) → v ≡ Accepted → Copied (encode (setWith h given)) file r after → Promise writeEntry (record { net = h; lists = given }) file r after
+  unfolding writeEntry lengthTells tell onAccept givenVerdict setWith
+  write-taken r after t c =
+      let same : writeEntry .verdict (record { net = h; lists = given }) file ≡ laidVerdict (encode (setWith h given)) (length file) =
+      entry-verdict ∙ ap (λ (x : Verdict). andThen (refuse (needCounts h 0) 0) (andThen x (laidVerdict (encode (setWith h given)) (length file)))) (sym lists-same)
+      ∙ then-assoc _ _ _ ∙ then-ok _ _ (sym e ∙ t) in
       record {
-        answer = ap (λ (x : ℕ). lengthTells (answer.Length x)) q ∙ sym (ap (λ (x : Verdict). tell x (fileLength h ∷ [])) same);
-        lent = p ∙ put-laid (encode (setWith h lent)) file (omega (arith, encode-long (setWith h lent)))
-            ∙ sym (ap (λ (x : Verdict). onAccept x (laid (encode (setWith h lent)) file) file) same);
+        answer = c .answer ∙ ap₂ (λ (x : Verdict) (n : ℕ). tell x (n ∷ [])) (sym same) (encode-long (setWith h given));
+        lent = c .lent ∙ sym (ap (λ (x : Verdict). onAccept x (laid (encode (setWith h given)) file) file) same);
       }
 
-pub ruleset promises = (write-refused, write-done)
+pub ruleset promises = (given-taken, write-refused, write-taken)

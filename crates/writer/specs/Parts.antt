@@ -1,65 +1,42 @@
--- A set's lists one by one, what a store leaves, and the writer's verdict by the room's length.
-use mathlib.Core.List.{List, [], _∷_}
-use Prim.Native.Nat.{ℕ, _+_, _<_}
+-- The records of a file by the lists of their fields, and what a laid file answers.
+use mathlib.Core.Path.{_≡_}
+use mathlib.Core.List.{List, [], _∷_, _++_}
+use Prim.Native.Nat.{ℕ, suc, _+_}
 use lib.Dec.{leb}
-use lib.ListN.{getD}
-use lib.Seq.{sets}
+use lib.ListN.{length, getD}
 use Rattle.rules.specs.declared.Network.{Network}
 use Rattle.rules.specs.declared.Verdict.{Verdict}
-use Rattle.rules.specs.Basics.{need}
-use Rattle.rules.specs.Limits.{needCounts, homeRecords, homePlace, rowPlace, fileLength}
-use Rattle.rules.specs.File.{Set, bytes2, encode}
-use Rattle.rules.specs.Judgement.{refuse, andThen, inTurn, homeNumber, rowNumber, records, judge}
-use Rattle.housefile.specs.Rules.{judged}
-use Rattle.rules.specs.Entries.{Lists, lists, needLists, setWith}
+use Rattle.rules.specs.declared.LengthAnswer.{LengthAnswer}
+use Rattle.rules.specs.Basics.{need, flat, laid}
+use Rattle.rules.specs.Limits.{needCounts, rowWeights}
+use Rattle.rules.specs.File.{bytes2, rowStart}
+use Rattle.rules.specs.Judgement.{refuse, andThen, judge}
+use Rattle.rules.specs.Answers.{tell, lengthTells}
+use Rattle.rules.specs.Entries.{onAccept}
+use Rattle.layout.specs.Records.{linkRecord, rowHead}
+use Rattle.needs.specs.Numbers.{listsVerdict}
 
--- ---- a record's bytes depend on some of the lists alone: the sets that have these and no others
+-- link l's record
+unfoldable pub linkOf : List ℕ → List ℕ → List ℕ → ℕ → List ℕ
+linkOf a b weights l = linkRecord (getD a l 0) (getD b l 0) (getD weights l 0)
 
-abbrev pub linksOnly : Network → List ℕ → List ℕ → List ℕ → Set
-linksOnly h a b weights = setWith h (lists a b weights [] [])
+-- weight x of a row whose weights stand in `rows` from entry `first` on
+unfoldable pub weightOf : List ℕ → ℕ → ℕ → List ℕ
+weightOf rows first x = bytes2 (getD rows (first + x) 0)
 
-abbrev pub homesOnly : Network → List ℕ → Set
-homesOnly h homes = setWith h (lists [] [] [] homes [])
+-- the row of topology j + 1
+unfoldable pub rowOf : Network → List ℕ → ℕ → List ℕ
+rowOf h rows j = rowHead (suc j) ++ flat (weightOf rows (rowStart h j)) (rowWeights h)
 
-abbrev pub rowsOnly : Network → List ℕ → Set
-rowsOnly h rows = setWith h (lists [] [] [] [] rows)
+-- counts within their limits, and lists of these lengths that are long enough
+unfoldable pub givenVerdict : Network → ℕ → ℕ → ℕ → ℕ → ℕ → Verdict
+givenVerdict h a b weights homes rows = andThen (refuse (needCounts h 0) 0) (listsVerdict 1 h a b weights homes rows)
 
--- the homes and rows, and the links' ends that the rows are judged by
-abbrev pub backupOnly : Network → List ℕ → List ℕ → List ℕ → List ℕ → Set
-backupOnly h a b homes rows = setWith h (lists a b [] homes rows)
+-- the verdict on a file s that is laid, and on lent room of this length
+unfoldable pub laidVerdict : List ℕ → ℕ → Verdict
+laidVerdict s room = andThen (judge s) (refuse (need (leb (length s) room) 14 0) 0)
 
--- the ends of every link are nodes: only then do they have homes
-pub record EndsInside (h : Network) (a b : List ℕ) : Type 0 where
-  pub inside : (l : ℕ) → l < h .m → (getD a l 0 < h .n) × (getD b l 0 < h .n)
-
--- a link's bytes, by the lists of its fields
-unfoldable pub linkRecord : List ℕ → List ℕ → List ℕ → ℕ → List ℕ
-linkRecord a b weights l = 0x4C ∷ 0x4B ∷ getD a l 0 ∷ getD b l 0 ∷ bytes2 (getD weights l 0)
-
--- a weight's bytes: entry x of a row whose weights stand in `rows` from entry `first` on
-unfoldable pub weightBytes : List ℕ → ℕ → ℕ → List ℕ
-weightBytes rows first x = bytes2 (getD rows (first + x) 0)
-
--- ---- what a store leaves: d with these bytes from its place `at` on, as far as it reaches
-unfoldable pub put : List ℕ → ℕ → List ℕ → List ℕ
-put d at bytes = sets d at bytes
-
--- ---- the verdict
-
--- the homes in turn, then the rows
-unfoldable pub backupVerdict : Network → List ℕ → List ℕ → List ℕ → List ℕ → Verdict
-backupVerdict h a b homes rows =
-    andThen (inTurn (judged (homeNumber (encode (homesOnly h homes)) h) (homePlace h)) (homeRecords h))
-    (inTurn (judged (rowNumber (encode (backupOnly h a b homes rows)) h) (rowPlace h)) (h .k))
-
--- the records, then a room that is so long
-unfoldable pub recordsThenRoom : Network → Lists → ℕ → Verdict
-recordsThenRoom h d room = andThen (records (encode (setWith h d)) h) (refuse (need (leb (fileLength h) room) 14 0) 0)
-
--- the writer's verdict, of a room that is so long
-unfoldable pub writeVerdict : Network → Lists → ℕ → Verdict
-writeVerdict h d room =
-    andThen (refuse (needCounts h 0) 0)
-    (andThen (needLists 1 h d)
-    (andThen (judge (encode (setWith h d)))
-    (refuse (need (leb (fileLength h) room) 14 0) 0)))
+-- what it answers and leaves: its length and itself at the front of the room, or the refusal and the room as it came
+pub record Copied (s before : List ℕ) (r : LengthAnswer) (after : List ℕ) : Type 0 where
+  pub answer : lengthTells r ≡ tell (laidVerdict s (length before)) (length s ∷ [])
+  pub lent : after ≡ onAccept (laidVerdict s (length before)) (laid s before) before

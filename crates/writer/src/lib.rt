@@ -1,72 +1,81 @@
-// The writer: from a header and five lists to the file of the set that they are. `write` promises, for any lists and any room,
-// the refusal that the reader would give for what it would write, 1 for a list that is too short, 14 for room that is too short,
-// or the file at the front of the room; a refusal leaves the room as it came. Entries past the counts are neither written nor
-// compared. The lists are judged first and nothing is stored before they are accepted.
-mod list; // list.rt: the entries of the lists
-mod draft; // draft.rt: the judgement of the records
-pub mod store; // store.rt: the bytes of a set
+// The writer: from a header and five lists to the file of the set that they are. `write` promises, for any lists and any room, the
+// refusal that the reader would give for what it would write, 1 for a list that is too short, 14 for room that is too short, or the
+// file at the front of the room; a refusal leaves the room as it came. Entries past the counts are neither written nor compared.
+// The lists are laid as bytes in room of the writer's own, those bytes are judged as every file is, and only then are they copied
+// into the lent file.
+mod lay; // lay.rt: the lists as bytes
 
-use housefile::rule;
+use judgement::judge;
+use needs::need_lists;
 use needs::need_room;
+use needs::refuse;
 use needs::then;
 use rules::LengthAnswer;
 use rules::Network;
 use rules::Verdict;
 ghost use mathlib.Core.Path.{_≡_};
-ghost use Rattle.rules.specs.Entries.{Promise, lists, writeEntry};
-ghost use Rattle.writer.specs.Parts.{recordsThenRoom, writeVerdict};
+ghost use lib.ListN.{length};
+ghost use Rattle.rules.specs.declared.Verdict.the-variants.{Accepted};
+ghost use Rattle.rules.specs.Limits.{fileLength};
+ghost use Rattle.rules.specs.File.{encode};
+ghost use Rattle.rules.specs.Entries.{Promise, lists, setWith, writeEntry};
+ghost use Rattle.writer.specs.Parts.{givenVerdict, Copied};
 
-// The records, then the room.
-fn records_then_room(
-    net: Network,
-    a: &[u8],
-    b: &[u8],
-    weights: &[u16],
-    homes: &[u8],
-    rows: &[u16],
-    long: usize,
-) -> Verdict
-    ensures { λ r. ⌜ r ≡ recordsThenRoom net (lists (now (a .entry)) (now (b .entry)) (now (weights .entry)) (now (homes .entry)) (now (rows .entry))) long ⌝ }
+// What is asked before anything is laid: counts within their limits (3), lists that are long enough (1).
+fn given(net: Network, a: usize, b: usize, weights: usize, homes: usize, rows: usize) -> Verdict
+    ensures { λ r. ⌜ r ≡ givenVerdict net a b weights homes rows ⌝ }
 {
-    let records = draft::records(net, a, b, weights, homes, rows);
-    let room = need_room(housefile::file_length(net), long);
-    then(records, room)
+    let counts = refuse(recordrules::counts(net, 0), 0);
+    let long = need_lists(1, net, a, b, weights, homes, rows);
+    then(counts, long)
 }
 
-// What writing these lists answers, into a room that is so long.
-fn judged(
+// A file that is laid: judged, and copied where there is room.
+fn copied(laid: &[u8], file: &mut [u8]) -> LengthAnswer
+    ensures { λ r. ⌜ Copied (now (laid .entry)) (now (file .entry)) r (now (file .exit)) ⌝ }
+{
+    let room = need_room(laid.len(), file.len());
+    let v = then(judge(laid), room);
+    match v {
+        Verdict::Accepted => LengthAnswer::Length(bytes::copy(laid, file)),
+        Verdict::Refused { number, place } => LengthAnswer::Refused { number, place },
+    }
+}
+
+// The lists laid in room that is as long as their file.
+fn laid(
     net: Network,
     a: &[u8],
     b: &[u8],
     weights: &[u16],
     homes: &[u8],
     rows: &[u16],
-    long: usize,
-) -> Verdict
-    ensures { λ r. ⌜ r ≡ writeVerdict net (lists (now (a .entry)) (now (b .entry)) (now (weights .entry)) (now (homes .entry)) (now (rows .entry))) long ⌝ }
+    room: &mut [u8],
+    file: &mut [u8],
+) -> LengthAnswer
+    requires { ⌜ length (now room) ≡ fileLength net ⌝ }
+    ensures { λ r. ⌜ Copied (encode (setWith net (lists (now (a .entry)) (now (b .entry)) (now (weights .entry)) (now (homes .entry)) (now (rows .entry))))) (now (file .entry)) r (now (file .exit)) ⌝ }
 {
-    let counts = rule::counts(net, 0);
-    if counts != 0 {
-        return Verdict::Refused {
-            number: counts,
-            place: 0,
-        };
-    }
-    let number = rule::lists(
-        1,
-        net,
-        a.len(),
-        b.len(),
-        weights.len(),
-        homes.len(),
-        rows.len(),
-        housefile::home_records(net),
-        list::row_start(net, net.k as usize),
-    );
-    if number != 0 {
-        return Verdict::Refused { number, place: 0 };
-    }
-    records_then_room(net, a, b, weights, homes, rows, long)
+    lay::set(room, net, a, b, weights, homes, rows);
+    copied(room, file)
+}
+
+// The same in room of the writer's own: counts within their limits have no longer file.
+fn in_own_room(
+    net: Network,
+    a: &[u8],
+    b: &[u8],
+    weights: &[u16],
+    homes: &[u8],
+    rows: &[u16],
+    file: &mut [u8],
+) -> LengthAnswer
+    requires { ⌜ givenVerdict net (length (now a)) (length (now b)) (length (now weights)) (length (now homes)) (length (now rows)) ≡ Accepted ⌝ }
+    ensures { λ r. ⌜ Copied (encode (setWith net (lists (now (a .entry)) (now (b .entry)) (now (weights .entry)) (now (homes .entry)) (now (rows .entry))))) (now (file .entry)) r (now (file .exit)) ⌝ }
+{
+    let mut room = rooms::file();
+    let long = net.file_length();
+    laid(net, a, b, weights, homes, rows, &mut room[..long], file)
 }
 
 // Writes the file of these lists into lent room.
@@ -81,12 +90,16 @@ pub fn write(
 ) -> LengthAnswer
     ensures { λ r. ⌜ Promise writeEntry (record { net = net; lists = lists (now (a .entry)) (now (b .entry)) (now (weights .entry)) (now (homes .entry)) (now (rows .entry)) }) (now (file .entry)) r (now (file .exit)) ⌝ }
 {
-    let v = judged(net, a, b, weights, homes, rows, file.len());
+    let v = given(
+        net,
+        a.len(),
+        b.len(),
+        weights.len(),
+        homes.len(),
+        rows.len(),
+    );
     match v {
-        Verdict::Accepted => {
-            store::set(file, net, a, b, weights, homes, rows);
-            LengthAnswer::Length(housefile::file_length(net))
-        }
+        Verdict::Accepted => in_own_room(net, a, b, weights, homes, rows, file),
         Verdict::Refused { number, place } => LengthAnswer::Refused { number, place },
     }
 }

@@ -1,19 +1,16 @@
-use borrow.Author.Needs.{needs}
 use Rattle.writer.proofs.Verdicts.{promises}
+use borrow.Author.Needs.{needs}
 use Rattle.writer.proofs.write.Statement.{statement}
 use Rattle.writer.proofs.write.Tie as tie
 
-judged-requires : tie.Need-judged-requires
-judged-requires c κs = search needs
+given-requires : tie.Need-given-requires
+given-requires c κs = search needs
 
 enum-told : tie.Need-enum-told
 enum-told c = search needs
 
-set-requires : tie.Need-set-requires
-set-requires c κs = search needs
-
-file-length-requires : tie.Need-file-length-requires
-file-length-requires c κs = search needs
+in-own-room-requires : tie.Need-in-own-room-requires
+in-own-room-requires c κs = search promises
 
 enum-known-v : tie.Need-enum-known-v
 enum-known-v c = search needs
@@ -31,10 +28,9 @@ pub write-spec : {M : Type 1} → statement M
 write-spec =
     tie.close
     (tie.spec
-    judged-requires
+    given-requires
     enum-told
-    set-requires
-    file-length-requires
+    in-own-room-requires
     enum-known-v
     same-length
     returns

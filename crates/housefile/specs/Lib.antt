@@ -1,2 +1,0 @@
--- The judgement in the shape in which the code runs.
-pub mod Rules

@@ -1,0 +1,89 @@
+use mathlib.Core.Path.{_≡_}
+use Prim.Native.Nat.{_-_, _≤_}
+use native.Mathlib.Omega.{arith}
+use borrow.Author.Needs.{needs}
+use Rattle.rules.proofs.Choices.{turn-none}
+use Rattle.rules.specs.declared.Verdict.the-variants.{Accepted}
+use Rattle.rules.specs.Limits.{linkPlace}
+use Rattle.rules.specs.Judgement.{inTurn, linkNumber}
+use Rattle.judgement.specs.Turns.{judged}
+use Rattle.judgement.proofs.InTurn.{Ranked, link-turns, ranked-none}
+use Rattle.judgement.proofs.links.Statement.{statement}
+use Rattle.judgement.proofs.links.Tie as tie
+
+abbrev Inv-loop : tie.InvT-loop
+Inv-loop file net m last₀ l₀ last l = (l ≤ m) × (inTurn (judged (linkNumber file net) linkPlace) l ≡ Accepted) × Ranked file l last
+
+abbrev μ-loop : tie.MeasureT-loop
+μ-loop file net m last₀ l₀ last l = m - l
+
+cast-m : tie.Need-cast-m Inv-loop μ-loop
+cast-m c = omega arith
+
+loop-holds : tie.Need-loop-holds Inv-loop μ-loop
+loop-holds c = (search needs, turn-none _, ranked-none _)
+
+link-place-requires : tie.Need-link-place-requires Inv-loop μ-loop
+link-place-requires c κs = omega arith
+
+end-a-requires : tie.Need-end-a-requires Inv-loop μ-loop
+end-a-requires c κs = omega arith
+
+end-b-requires : tie.Need-end-b-requires Inv-loop μ-loop
+end-b-requires c κs = omega arith
+
+rank-requires : tie.Need-rank-requires Inv-loop μ-loop
+rank-requires c κs = omega arith
+
+byte-requires : tie.Need-byte-requires Inv-loop μ-loop
+byte-requires c κs = omega arith
+
+add-byte : tie.Need-add-byte Inv-loop μ-loop
+add-byte c = omega arith
+
+byte-requires-2 : tie.Need-byte-requires-2 Inv-loop μ-loop
+byte-requires-2 c κs = omega arith
+
+link-weight-requires : tie.Need-link-weight-requires Inv-loop μ-loop
+link-weight-requires c κs = omega arith
+
+link-requires : tie.Need-link-requires Inv-loop μ-loop
+link-requires c κs = omega arith
+
+returns : tie.Need-returns Inv-loop μ-loop
+returns c = search link-turns
+
+add-l : tie.Need-add-l Inv-loop μ-loop
+add-l c = omega arith
+
+loop-less : tie.Need-loop-less Inv-loop μ-loop
+loop-less c = omega arith
+
+loop-again : tie.Need-loop-again Inv-loop μ-loop
+loop-again c = (omega arith, search link-turns, search link-turns)
+
+returns-2 : tie.Need-returns-2 Inv-loop μ-loop
+returns-2 c = search link-turns
+
+pub links-spec : {M : Type 1} → statement M
+links-spec =
+    tie.close
+    (tie.spec
+    Inv-loop
+    μ-loop
+    cast-m
+    loop-holds
+    link-place-requires
+    end-a-requires
+    end-b-requires
+    rank-requires
+    byte-requires
+    add-byte
+    byte-requires-2
+    link-weight-requires
+    link-requires
+    returns
+    add-l
+    loop-less
+    loop-again
+    returns-2)

@@ -1,0 +1,45 @@
+-- A record's fields, stored one after the other, are the record; home records in turn are all of them.
+use mathlib.Core.Path.{_≡_, refl, ap, _∙_}
+use mathlib.Core.List.{List, [], _∷_, _++_}
+use Prim.Native.Nat.{ℕ, _+_, _*_, _<_}
+use native.Mathlib.Omega.{arith}
+use lib.ListN.{getD}
+use Rattle.rules.specs.declared.Network.{Network}
+use Rattle.rules.specs.Limits.{homePlace}
+use Rattle.rules.specs.File.{bytes2, headerBytes}
+use Rattle.slices.specs.Stores.{put}
+use Rattle.slices.proofs.Stores.{put-then, Storing, storing-none, storing-done, storing-more}
+use Rattle.layout.specs.Records.{linkRecord, homeRecord, homeOf, rowHead}
+
+pub marked-put : (d e e′ : List ℕ) (at x y z : ℕ) → e ≡ put d at (x ∷ y ∷ []) → e′ ≡ put e (at + 2) (z ∷ []) → e′ ≡ put d at (x ∷ y ∷ z ∷ [])
+marked-put d e e′ at x y z p q = put-then d e e′ at (at + 2) (x ∷ y ∷ []) (z ∷ []) p q refl
+
+pub header-put : (d e e′ e″ f : List ℕ) (h : Network) → e ≡ put d 0 (0x4E ∷ 0x57 ∷ h .n ∷ []) → e′ ≡ put e 3 (bytes2 (h .m)) → e″ ≡ put e′ 5 (h .k ∷ [])
+    → f ≡ put e″ 6 (bytes2 (h .wmax)) → f ≡ put d 0 (headerBytes h)
+unfolding headerBytes bytes2
+header-put d e e′ e″ f h p q r s =
+    let one = put-then d e e′ 0 3 (0x4E ∷ 0x57 ∷ h .n ∷ []) (bytes2 (h .m)) p q refl in
+    let two = put-then d e′ e″ 0 5 (0x4E ∷ 0x57 ∷ h .n ∷ bytes2 (h .m)) (h .k ∷ []) one r refl in
+    put-then d e″ f 0 6 (0x4E ∷ 0x57 ∷ h .n ∷ (bytes2 (h .m) ++ (h .k ∷ []))) (bytes2 (h .wmax)) two s refl
+
+pub link-put : (d e e′ e″ : List ℕ) (at a b w : ℕ) → e ≡ put d at (0x4C ∷ 0x4B ∷ a ∷ []) → e′ ≡ put e (at + 3) (b ∷ []) → e″ ≡ put e′ (at + 4) (bytes2 w)
+    → e″ ≡ put d at (linkRecord a b w)
+unfolding linkRecord
+link-put d e e′ e″ at a b w p q r =
+    put-then d e′ e″ at (at + 4) (0x4C ∷ 0x4B ∷ a ∷ b ∷ []) (bytes2 w) (put-then d e e′ at (at + 3) (0x4C ∷ 0x4B ∷ a ∷ []) (b ∷ []) p q refl) r refl
+
+pub home-put : (d e e′ : List ℕ) (at v t : ℕ) → e ≡ put d at (0x48 ∷ 0x4D ∷ v ∷ []) → e′ ≡ put e (at + 3) (t ∷ []) → e′ ≡ put d at (homeRecord v t)
+unfolding homeRecord
+home-put d e e′ at v t p q = put-then d e e′ at (at + 3) (0x48 ∷ 0x4D ∷ v ∷ []) (t ∷ []) p q refl
+
+pub head-put : (d e : List ℕ) (at t : ℕ) → e ≡ put d at (0x42 ∷ 0x57 ∷ t ∷ []) → e ≡ put d at (rowHead t)
+unfolding rowHead
+head-put d e at t p = p
+
+pub homes-more : (h : Network) (homes d e e′ : List ℕ) (v n at t : ℕ) → Storing d e (homePlace h 0) (homeOf homes) v n → v < n → at ≡ homePlace h v → t ≡ getD homes v 0
+    → e′ ≡ put e at (homeRecord v t) → Storing d e′ (homePlace h 0) (homeOf homes) (v + 1) n
+unfolding homePlace homeOf homeRecord
+homes-more h homes d e e′ v n at t s g p et q =
+    storing-more d e e′ _ (homeOf homes) v n at 4 _ s g (λ i _. refl) (omega arith) (rw et) q
+
+pub ruleset records = (marked-put, header-put, link-put, home-put, head-put, storing-none, storing-done, homes-more)

@@ -1,0 +1,2 @@
+-- The records of a file.
+pub mod Records

@@ -1,0 +1,89 @@
+// The layout of the house file: where its records stand, which follows from the counts of its header; their fields, read at those
+// places from any bytes; and the records, stored there (`record`). Places, fields and records are promised by the definitions of
+// 01's 'The file'. What a field may hold is the judgement's to say.
+pub mod record; // record.rt: the records as bytes
+
+use rules::Network;
+use slices::byte;
+use slices::two;
+ghost use mathlib.Core.Path.{_≡_};
+ghost use Prim.Native.Nat.{_<_};
+ghost use Rattle.rules.specs.Limits.{linkPlace, homePlace, rowPlace};
+ghost use Rattle.rules.specs.File.{headerOf, endA, endB, linkWeight, homeTopology, rowWeight};
+
+// ---- places
+
+// Where link l's record starts.
+pub fn link_place(l: usize) -> usize
+    requires { ⌜ l < 16777216 ⌝ }
+    ensures { λ r. ⌜ (r ≡ linkPlace l) × (r < 134217728) ⌝ }
+{
+    Network::HEADER + Network::LINK * l
+}
+
+// Where node v's home record starts.
+pub fn home_place(net: Network, v: usize) -> usize
+    requires { ⌜ v < 16777216 ⌝ }
+    ensures { λ r. ⌜ (r ≡ homePlace net v) × (r < 268435456) ⌝ }
+{
+    link_place(net.m as usize) + Network::HOME * v
+}
+
+// Where the row of topology j + 1 starts.
+pub fn row_place(net: Network, j: usize) -> usize
+    requires { ⌜ j < 256 ⌝ }
+    ensures { λ r. ⌜ (r ≡ rowPlace net j) × (r < 536870912) ⌝ }
+{
+    home_place(net, net.home_records()) + j * net.row_length()
+}
+
+// The counts that stand in the header.
+pub fn header(file: &[u8]) -> Network
+    ensures { λ r. ⌜ r ≡ headerOf (now (file .entry)) ⌝ }
+{
+    Network::header(byte(file, 2), two(file, 3), byte(file, 5), two(file, 6))
+}
+
+// ---- fields: after its mark's two bytes a link has a, b and a weight of two bytes, a home its node and topology
+
+// One end of link l, and the other.
+pub fn end_a(file: &[u8], l: usize) -> u8
+    requires { ⌜ l < 16777216 ⌝ }
+    ensures { λ r. ⌜ r ≡ endA (now (file .entry)) l ⌝ }
+{
+    byte(file, link_place(l) + 2)
+}
+
+pub fn end_b(file: &[u8], l: usize) -> u8
+    requires { ⌜ l < 16777216 ⌝ }
+    ensures { λ r. ⌜ r ≡ endB (now (file .entry)) l ⌝ }
+{
+    byte(file, link_place(l) + 3)
+}
+
+// Link l's weight in topology 0.
+pub fn link_weight(file: &[u8], l: usize) -> u16
+    requires { ⌜ l < 16777216 ⌝ }
+    ensures { λ r. ⌜ r ≡ linkWeight (now (file .entry)) l ⌝ }
+{
+    two(file, link_place(l) + 4)
+}
+
+// Node v's home.
+pub fn home_topology(file: &[u8], net: Network, v: usize) -> u8
+    requires { ⌜ v < 16777216 ⌝ }
+    ensures { λ r. ⌜ r ≡ homeTopology (now (file .entry)) net v ⌝ }
+{
+    byte(file, home_place(net, v) + 3)
+}
+
+// Weight x of the row of topology j + 1.
+pub fn row_weight(file: &[u8], net: Network, j: usize, x: usize) -> u16
+    requires { ⌜ (j < 256) × (x < 16777216) ⌝ }
+    ensures { λ r. ⌜ r ≡ rowWeight (now (file .entry)) net j x ⌝ }
+{
+    two(
+        file,
+        row_place(net, j) + Network::ROW_HEAD + Network::WEIGHT * x,
+    )
+}

@@ -1,0 +1,74 @@
+// The records of a file, stored at a place of a lent file. A byte past the file's end is stored nowhere, so no store asks for room:
+// that there is room is for a verdict to say.
+use crate::home_place;
+use rules::Network;
+use slices::store::byte;
+use slices::store::number;
+use slices::store::two;
+ghost use mathlib.Core.Path.{_≡_};
+ghost use mathlib.Core.List.{[], _∷_};
+ghost use Prim.Native.Nat.{_<_};
+ghost use Rattle.rules.specs.Basics.{flat};
+ghost use Rattle.rules.specs.Limits.{homePlace};
+ghost use Rattle.rules.specs.File.{headerBytes};
+ghost use Rattle.slices.specs.Stores.{put};
+ghost use Rattle.layout.specs.Records.{linkRecord, homeRecord, homeOf, rowHead};
+
+// A mark and the byte after it.
+fn marked(file: &mut [u8], at: usize, x: u8, y: u8, z: u8)
+    requires { ⌜ at < 4294967296 ⌝ }
+    ensures { λ _. ⌜ now (file .exit) ≡ put (now (file .entry)) at (x ∷ y ∷ z ∷ []) ⌝ }
+{
+    two(file, at, x, y);
+    byte(file, at + 2, z);
+}
+
+// The network record, at the file's front.
+pub fn header(file: &mut [u8], net: Network)
+    ensures { λ _. ⌜ now (file .exit) ≡ put (now (file .entry)) 0 (headerBytes net) ⌝ }
+{
+    marked(file, 0, 0x4E, 0x57, net.n);
+    number(file, 3, net.m);
+    byte(file, 5, net.k);
+    number(file, 6, net.wmax);
+}
+
+// A link record.
+pub fn link(file: &mut [u8], at: usize, a: u8, b: u8, w: u16)
+    requires { ⌜ at < 134217728 ⌝ }
+    ensures { λ _. ⌜ now (file .exit) ≡ put (now (file .entry)) at (linkRecord a b w) ⌝ }
+{
+    marked(file, at, 0x4C, 0x4B, a);
+    byte(file, at + 3, b);
+    number(file, at + 4, w);
+}
+
+// A home record.
+pub fn home(file: &mut [u8], at: usize, v: u8, topology: u8)
+    requires { ⌜ at < 268435456 ⌝ }
+    ensures { λ _. ⌜ now (file .exit) ≡ put (now (file .entry)) at (homeRecord v topology) ⌝ }
+{
+    marked(file, at, 0x48, 0x4D, v);
+    byte(file, at + 3, topology);
+}
+
+// The start of a row: its mark and its topology. Its weights follow, two bytes each.
+pub fn row_head(file: &mut [u8], at: usize, topology: u8)
+    requires { ⌜ at < 1073741824 ⌝ }
+    ensures { λ _. ⌜ now (file .exit) ≡ put (now (file .entry)) at (rowHead topology) ⌝ }
+{
+    marked(file, at, 0x42, 0x57, topology);
+}
+
+// The first home records, by a list of homes.
+pub fn homes(file: &mut [u8], net: Network, homes: &[u8], count: usize)
+    requires { ⌜ count < 256 ⌝ }
+    ensures { λ _. ⌜ now (file .exit) ≡ put (now (file .entry)) (homePlace net 0) (flat (homeOf (now (homes .entry))) count) ⌝ }
+{
+    let mut v = 0;
+    while v < count {
+        let topology = slices::byte(homes, v);
+        home(file, home_place(net, v), v as u8, topology);
+        v += 1;
+    }
+}

@@ -1,0 +1,2 @@
+-- The lengths of the rooms in figures, for the proofs that reckon with them.
+pub mod Longest

@@ -1,0 +1,2 @@
+-- Room that is lent on.
+pub mod Rooms

@@ -1,0 +1,41 @@
+// Room for the longest of each thing that a caller lends: the longest file, its tables, a run's trail, a report. Each is promised whole:
+// as many bytes as the definitions say, all 0.
+use rules::Network;
+ghost use Prim.Native.Nat.{_+_};
+ghost use Rattle.rules.specs.Limits.{longest};
+ghost use Rattle.rooms.specs.Rooms.{Room};
+
+// Room for the longest file.
+pub fn file() -> [u8; Network::LONGEST_FILE]
+    ensures { λ r. ⌜ Room (longest .file) r ⌝ }
+{
+    [0; Network::LONGEST_FILE]
+}
+
+// Room for one byte more than the longest file, so that a longer one is seen.
+pub fn file_and_one() -> [u8; Network::LONGEST_FILE + 1]
+    ensures { λ r. ⌜ Room (longest .file + 1) r ⌝ }
+{
+    [0; Network::LONGEST_FILE + 1]
+}
+
+// Room for the longest tables.
+pub fn tables() -> [u8; Network::LONGEST_TABLES]
+    ensures { λ r. ⌜ Room (longest .tables) r ⌝ }
+{
+    [0; Network::LONGEST_TABLES]
+}
+
+// Room for the longest trail.
+pub fn trail() -> [u8; Network::LONGEST_TRAIL]
+    ensures { λ r. ⌜ Room (longest .trail) r ⌝ }
+{
+    [0; Network::LONGEST_TRAIL]
+}
+
+// Room for the longest report.
+pub fn report() -> [u8; Network::LONGEST_REPORT]
+    ensures { λ r. ⌜ Room (longest .report) r ⌝ }
+{
+    [0; Network::LONGEST_REPORT]
+}

@@ -1,0 +1,2 @@
+-- Laws that the functions' proofs, and those of the crates above, cite.
+pub mod Stores

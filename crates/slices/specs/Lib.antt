@@ -1,0 +1,2 @@
+-- What a store leaves.
+pub mod Stores

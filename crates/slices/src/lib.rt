@@ -1,0 +1,39 @@
+// Numbers at a place in a slice, read and stored at any place. A read past the end gives 0, and a store past the end alters nothing,
+// so no caller has to check a place. Each function promises the entry, or the whole slice after the store.
+pub mod store; // store.rt: bytes, and numbers of two bytes
+
+ghost use mathlib.Core.Path.{_≡_};
+ghost use Prim.Native.Nat.{_<_};
+ghost use lib.ListN.{getD};
+ghost use Rattle.rules.specs.File.{two};
+
+// The byte at a place, and 0 past the end.
+pub fn byte(bytes: &[u8], at: usize) -> u8
+    ensures { λ r. ⌜ r ≡ getD (now (bytes .entry)) at 0 ⌝ }
+{
+    if at < bytes.len() { bytes[at] } else { 0 }
+}
+
+// The two bytes at a place as one number, the first the higher.
+pub fn two(bytes: &[u8], at: usize) -> u16
+    requires { ⌜ at < 4294967296 ⌝ }
+    ensures { λ r. ⌜ r ≡ two (now (bytes .entry)) at ⌝ }
+{
+    let high = byte(bytes, at) as u16;
+    let low = byte(bytes, at + 1) as u16;
+    256 * high + low
+}
+
+// Entry i of a list of numbers of 16 bits, and 0 past its end.
+pub fn entry(list: &[u16], i: usize) -> u16
+    ensures { λ r. ⌜ r ≡ getD (now (list .entry)) i 0 ⌝ }
+{
+    if i < list.len() { list[i] } else { 0 }
+}
+
+// Entry i of a list of words, and 0 past its end.
+pub fn word(list: &[u32], i: usize) -> u32
+    ensures { λ r. ⌜ r ≡ getD (now (list .entry)) i 0 ⌝ }
+{
+    if i < list.len() { list[i] } else { 0 }
+}
