@@ -6,6 +6,7 @@ use Prim.Native.Nat.{ℕ, zero, suc, _-_, _≤_, _<_}
 use native.Mathlib.Omega.{arith}
 use lib.Dec.{eqb, leb}
 use lib.ListN.{length, take, replicate, length-replicate}
+use borrow.Author.Tests.{leb-true}
 use Rattle.rules.specs.declared.Network.{Network}
 use Rattle.rules.specs.declared.Verdict.{Verdict}
 use Rattle.rules.specs.declared.Verdict.the-variants.{Accepted, Refused}
@@ -25,10 +26,10 @@ use Rattle.checker.specs.Graph.{neighbourWords}
 use Rattle.checker.proofs.Same.{WordsOf}
 use Rattle.checker.proofs.Graph.{words-of, accepted-few}
 use Rattle.builder.specs.Fit.{allSpared, Placed}
-use Rattle.writer.specs.Parts.{put}
-use Rattle.builder.specs.Stores.{filledFile}
+use Rattle.slices.specs.Stores.{put}
+use Rattle.filling.specs.Filled.{filledFile}
 use Rattle.builder.specs.Answer.{Gives}
-use Rattle.builder.proofs.Written.{written-is}
+use Rattle.filling.proofs.Written.{written-is}
 use Rattle.builder.proofs.Fitted.{all-spared-same, passed-cap, all-placed, placed-homes}
 
 -- ---- the two ways of an answer
@@ -58,20 +59,19 @@ module _ (s homes d : List ℕ) (net set : Network) (k bytes : ℕ) (en : net �
   long-is : bytes ≡ fileLength (filled (setOf s) homes .net)
   long-is = eb ∙ ap fileLength set-is
 
-  pub no-room : length d < bytes → Gives (needRoom (fileLength (filled (setOf s) homes .net)) d) (filled (setOf s) homes) d (long.Refused 14 0) d
+  room-is : (v : Verdict) → v ≡ refuse (need (leb bytes (length d)) 14 0) 0 → v ≡ needRoom (fileLength (filled (setOf s) homes .net)) d
   unfolding needRoom
-  no-room h =
-      let e = long-is in
-      gives-refused (refuse (need (leb (fileLength (filled (setOf s) homes .net)) (length d)) 14 0) 0) (filled (setOf s) homes) d 14 0
-      (ap (λ (x : ℕ). refuse x 0) (sym (need-le-no (fileLength (filled (setOf s) homes .net)) (length d) 14 0 14 (omega arith) refl)) ∙ refuses 14 (λ z. omega arith))
+  room-is v ev = ev ∙ rw long-is
 
-  pub room : (f : List ℕ) → bytes ≤ length d → f ≡ put d 0 (filledFile s homes set) → Gives (needRoom (fileLength (filled (setOf s) homes .net)) d) (filled (setOf s) homes) d (long.Length bytes) f
-  unfolding needRoom
-  room f h ef =
-      let e = long-is in
-      gives-length (refuse (need (leb (fileLength (filled (setOf s) homes .net)) (length d)) 14 0) 0) (filled (setOf s) homes) d f bytes
-      (sym (refuse-ok (need (leb (fileLength (filled (setOf s) homes .net)) (length d)) 14 0) 0 (sym (need-le (fileLength (filled (setOf s) homes .net)) (length d) 14 0 0 (omega arith) refl))))
-      long-is (ef ∙ written-is s homes d set set-is (rw (← eb) h))
+  pub no-room : (v : Verdict) (number place : ℕ) → v ≡ refuse (need (leb bytes (length d)) 14 0) 0 → v ≡ Refused number place
+      → Gives (needRoom (fileLength (filled (setOf s) homes .net)) d) (filled (setOf s) homes) d (long.Refused number place) d
+  no-room v number place ev t = gives-refused _ (filled (setOf s) homes) d number place (sym (room-is v ev) ∙ t)
+
+  pub room : (v : Verdict) (f : List ℕ) → v ≡ refuse (need (leb bytes (length d)) 14 0) 0 → v ≡ Accepted → f ≡ put d 0 (filledFile s homes set)
+      → Gives (needRoom (fileLength (filled (setOf s) homes .net)) d) (filled (setOf s) homes) d (long.Length bytes) f
+  room v f ev t ef =
+      let there : bytes ≤ length d = leb-true bytes (length d) (need-ok (leb bytes (length d)) 13 0 (refuse-zero _ 0 (sym ev ∙ t)) .0) in
+      gives-length _ (filled (setOf s) homes) d f bytes (sym (room-is v ev) ∙ t) long-is (ef ∙ written-is s homes d set set-is (rw (← eb) there))
 
 -- ---- fit
 
@@ -161,43 +161,13 @@ unfolding needCap
 cap-most s cap v t e =
     let a = then-second (needGraph (headerOf s)) (needCap cap) (then-second (judge s) (andThen (needGraph (headerOf s)) (needCap cap)) (sym e ∙ t)) in
     let p = need-ok (leb 1 cap) 10 (need (leb cap 32) 11 0) (refuse-zero (need (leb 1 cap) 11 (need (leb cap 32) 11 0)) 0 a) in
-    borrow.Author.Tests.leb-true cap 32 (need-ok (leb cap 32) 10 0 (p .1) .0)
+    leb-true cap 32 (need-ok (leb cap 32) 10 0 (p .1) .0)
 
 -- ---- the verdicts before it
 
-pub input-on : (s : List ℕ) (h : Network) (cap : ℕ) (v w : Verdict) → v ≡ Accepted → v ≡ judge s → h ≡ headerOf s → w ≡ andThen (needGraph h) (needCap cap)
-    → w ≡ andThen (judge s) (andThen (needGraph (headerOf s)) (needCap cap))
-input-on s h cap v w t e eh d = then-on v w (judge s) (andThen (needGraph (headerOf s)) (needCap cap)) t e (d ∙ ap (λ (x : Network). andThen (needGraph x) (needCap cap)) eh)
-
-refuse-is : (number rest : ℕ) → (number ≡ 0 → ⊥) → number ≡ rest → refuse rest 0 ≡ Refused number 0
-refuse-is number rest h e = ap (λ (x : ℕ). refuse x 0) (sym e) ∙ refuses number h
-
-pub no-graph : (h : Network) (cap : ℕ) → (h .k ≡ 0 → ⊥) → Refused 13 0 ≡ andThen (needGraph h) (needCap cap)
-unfolding needGraph
-no-graph h cap z = sym (then-no (needGraph h) (needCap cap) 13 0 (refuse-is 13 (need (eqb (h .k) 0) 13 0) (λ q. omega arith) (need-eq-no (h .k) 0 13 0 13 z refl)))
-
-module _ (h : Network) (cap : ℕ) (z : h .k ≡ 0) where
-  graph-ok : needGraph h ≡ Accepted
-  unfolding needGraph
-  graph-ok = sym (refuse-ok (need (eqb (h .k) 0) 13 0) 0 (sym (need-eq (h .k) 0 13 0 0 z refl)))
-
-  pub cap-low : cap < 1 → Refused 11 0 ≡ andThen (needGraph h) (needCap cap)
-  unfolding needCap
-  cap-low l =
-      sym (then-ok (needGraph h) (needCap cap) graph-ok
-      ∙ refuse-is 11 (need (leb 1 cap) 11 (need (leb cap 32) 11 0)) (λ q. omega arith) (need-le-no 1 cap 11 (need (leb cap 32) 11 0) 11 l refl))
-
-  pub cap-high : 1 ≤ cap → 32 < cap → Refused 11 0 ≡ andThen (needGraph h) (needCap cap)
-  unfolding needCap
-  cap-high l g =
-      sym (then-ok (needGraph h) (needCap cap) graph-ok
-      ∙ refuse-is 11 (need (leb 1 cap) 11 (need (leb cap 32) 11 0)) (λ q. omega arith) (need-le 1 cap 11 (need (leb cap 32) 11 0) 11 l (need-le-no cap 32 11 0 11 g refl)))
-
-  pub cap-ok : 1 ≤ cap → cap ≤ 32 → Accepted ≡ andThen (needGraph h) (needCap cap)
-  unfolding needCap
-  cap-ok l g =
-      sym (then-ok (needGraph h) (needCap cap) graph-ok
-      ∙ sym (refuse-ok (need (leb 1 cap) 11 (need (leb cap 32) 11 0)) 0 (sym (need-le 1 cap 11 (need (leb cap 32) 11 0) 0 l (need-le cap 32 11 0 0 g refl)))))
+pub input-is : (s : List ℕ) (h : Network) (cap : ℕ) (j g c rest v : Verdict) → j ≡ judge s → g ≡ needGraph h → h ≡ headerOf s → c ≡ needCap cap → rest ≡ andThen g c
+    → v ≡ andThen j rest → v ≡ andThen (judge s) (andThen (needGraph (headerOf s)) (needCap cap))
+input-is s h cap j g c rest v ej eg eh ec er ev = ev ∙ rw (ej, er, eg, eh, ec)
 
 -- ---- the room for the homes
 

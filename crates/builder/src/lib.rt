@@ -1,20 +1,22 @@
 // The builder: a set for a graph. Nodes go in number order, each to the first topology from 1 that admits it; a topology's
 // isolated nodes are kept as a word. `build` promises 01's answer for any bytes, cap and lent file: refusals 1 to 6, 13, 11, 9,
 // 10 and 14, or the set's bytes at the front of the file and their length. Nothing is stored before everything is accepted.
-mod store; // store.rt: the set's bytes into the lent file
-
 use checker::backbone;
 use checker::connected;
 use checker::enter;
 use checker::neighbour_words;
 use checker::topology_number;
-use housefile::byte;
-use housefile::file_length;
-use housefile::header;
-use housefile::judge;
+use filling::put_set;
+use judgement::judge;
+use layout::header;
+use needs::need_cap;
+use needs::need_graph;
+use needs::need_room;
+use needs::then;
 use rules::LengthAnswer;
 use rules::Network;
 use rules::Verdict;
+use slices::byte;
 use words::adding;
 use words::only;
 ghost use mathlib.Core.Path.{_≡_};
@@ -129,15 +131,15 @@ fn finish(graph: &[u8], net: Network, homes: &[u8], file: &mut [u8]) -> LengthAn
 {
     let k = highest(homes);
     let set = Network::header(net.n, net.m, k, net.wmax);
-    let long = file_length(set);
-    if file.len() < long {
-        return LengthAnswer::Refused {
-            number: 14,
-            place: 0,
-        };
+    let long = set.file_length();
+    let room = need_room(long, file.len());
+    match room {
+        Verdict::Accepted => {
+            put_set(graph, homes, file, set);
+            LengthAnswer::Length(long)
+        }
+        Verdict::Refused { number, place } => LengthAnswer::Refused { number, place },
     }
-    store::put_set(graph, homes, file, set);
-    LengthAnswer::Length(long)
 }
 
 // First fit, then the file.
@@ -198,43 +200,13 @@ fn build_graph(graph: &[u8], cap: u8, file: &mut [u8]) -> LengthAnswer
     }
 }
 
-// A graph alone is needed (13), and a cap of 1 to 32 (11).
-fn cap_verdict(net: Network, cap: u8) -> Verdict
-    ensures { λ r. ⌜ r ≡ andThen (needGraph net) (needCap cap) ⌝ }
-{
-    if net.k != 0 {
-        return Verdict::Refused {
-            number: 13,
-            place: 0,
-        };
-    }
-    if cap < 1 {
-        return Verdict::Refused {
-            number: 11,
-            place: 0,
-        };
-    }
-    if cap > Network::MAX_CAP {
-        return Verdict::Refused {
-            number: 11,
-            place: 0,
-        };
-    }
-    Verdict::Accepted
-}
-
-// What is refused before anything is built: 1 to 6, 13, 11.
+// What is refused before anything is built: 1 to 6, then 13 where a set is given, then 11 for the cap.
 fn input_verdict(graph: &[u8], cap: u8) -> Verdict
     ensures { λ r. ⌜ r ≡ andThen (judge (now (graph .entry))) (andThen (needGraph (headerOf (now (graph .entry)))) (needCap cap)) ⌝ }
 {
-    let v = judge(graph);
-    match v {
-        Verdict::Accepted => cap_verdict(header(graph), cap),
-        Verdict::Refused {
-            number: _,
-            place: _,
-        } => v,
-    }
+    let alone = need_graph(header(graph));
+    let range = need_cap(cap);
+    then(judge(graph), then(alone, range))
 }
 
 // The entry: a set for a graph with at most so many topologies, into a lent file.

@@ -6,6 +6,7 @@ use native.Mathlib.Numerals.{add-one}
 use native.Mathlib.Omega.{arith}
 use lib.Dec.{eqb, leb}
 use lib.ListN.{replicate}
+use borrow.Author.Tests.{leb-true}
 use Rattle.rules.specs.declared.Network.{Network}
 use Rattle.rules.specs.declared.Verdict.{Verdict}
 use Rattle.rules.specs.declared.Verdict.the-variants.{Accepted, Refused}
@@ -15,7 +16,7 @@ use Rattle.rules.specs.Isolation.{word, isolatedWord, topologyNumber}
 use Rattle.rules.specs.Judgement.{refuse, inTurn, andThen, judge, needSet, topologies, check}
 use Rattle.rules.specs.Answers.{tell, verdictTells}
 use Rattle.rules.specs.Entries.{Promise, NothingLent, onAccept, checkEntry}
-use Rattle.rules.proofs.Choices.{need-le, need-le-no, refuse-no, refuse-ok, then-ok, then-no, then-on, then-stop, turn-none, turn-more, turn-stop, turn-done}
+use Rattle.rules.proofs.Choices.{need-ok, refuse-no, refuse-ok, refuse-zero, then-on, then-stop, turn-none, turn-more, turn-stop, turn-done}
 use Rattle.words.specs.Word.{put}
 use Rattle.words.proofs.Members.{word-more}
 use Rattle.checker.specs.Graph.{entered, linked, neighbourWords, homeIs, Ends}
@@ -111,20 +112,20 @@ few-of s h eh a = rw eh (accepted-few s a)
 pub some-of : (s : List ℕ) (h : Network) → h ≡ headerOf s → judge s ≡ Accepted → 1 ≤ h .n
 some-of s h eh a = rw eh (let l = accepted-some s a in omega arith)
 
-pub some-topology : (k : ℕ) → (k ≡ 0 → ⊥) → 1 ≤ k
-some-topology k h = omega arith
-
-pub no-set : (s : List ℕ) (h : Network) → h ≡ headerOf s → h .k ≡ 0 → Refused 13 0 ≡ andThen (needSet (headerOf s)) (topologies (setOf s))
-unfolding needSet refuse
-no-set s h eh z =
-    let z′ : headerOf s .k ≡ 0 = rw eh at z in
-    sym (then-no (needSet (headerOf s)) (topologies (setOf s)) 13 0 (ap (λ (x : ℕ). refuse x 0) (sym (need-le-no 1 (headerOf s .k) 13 0 13 (omega arith) refl))))
-
-pub a-set : (s : List ℕ) (h : Network) (v : Verdict) → h ≡ headerOf s → (h .k ≡ 0 → ⊥) → v ≡ topologies (setOf s) → v ≡ andThen (needSet (headerOf s)) (topologies (setOf s))
+pub some-topology : (h : Network) → needSet h ≡ Accepted → 1 ≤ h .k
 unfolding needSet
-a-set s h v eh z e =
-    let z′ : headerOf s .k ≡ 0 → ⊥ = rw eh at z in
-    e ∙ sym (then-ok (refuse (need (leb 1 (headerOf s .k)) 13 0) 0) (topologies (setOf s)) (sym (refuse-ok (need (leb 1 (headerOf s .k)) 13 0) 0 (sym (need-le 1 (headerOf s .k) 13 0 0 (omega arith) refl)))))
+some-topology h e = leb-true 1 (h .k) (need-ok (leb 1 (h .k)) 12 0 (refuse-zero (need (leb 1 (h .k)) 13 0) 0 e) .0)
+
+pub set-given : (h : Network) (v : Verdict) → v ≡ needSet h → v ≡ Accepted → needSet h ≡ Accepted
+set-given h v e t = sym e ∙ t
+
+pub no-set : (s : List ℕ) (h : Network) (v : Verdict) (number place : ℕ) → v ≡ needSet h → h ≡ headerOf s → v ≡ Refused number place
+    → v ≡ andThen (needSet (headerOf s)) (topologies (setOf s))
+no-set s h v number place e eh t = then-stop v (needSet (headerOf s)) (topologies (setOf s)) number place t (e ∙ ap needSet eh)
+
+pub a-set : (s : List ℕ) (h : Network) (v w : Verdict) → v ≡ needSet h → h ≡ headerOf s → v ≡ Accepted → w ≡ topologies (setOf s)
+    → w ≡ andThen (needSet (headerOf s)) (topologies (setOf s))
+a-set s h v w e eh t d = then-on v w (needSet (headerOf s)) (topologies (setOf s)) t (e ∙ ap needSet eh) d
 
 -- ---- verdict, check
 

@@ -2,13 +2,15 @@
 // where a word that grows from its lowest node covers it, and an isolated node is served where its neighbour word, masked by
 // the backbone word, has two ones or more. `check` promises 01's verdict on any bytes: refusals 1 to 6, 13, then 7 and 8 by
 // topology.
-use housefile::end_a;
-use housefile::end_b;
-use housefile::header;
-use housefile::home_topology;
-use housefile::judge;
+use judgement::judge;
+use layout::end_a;
+use layout::end_b;
+use layout::header;
+use layout::home_topology;
+use needs::need_set;
 use rules::Network;
 use rules::Verdict;
+use slices::word;
 use words::adding;
 use words::both;
 use words::either;
@@ -34,14 +36,6 @@ ghost use Rattle.checker.specs.Topology.{backboneWord, reachedWord, conn
 
 // ---- a topology, by words
 
-// Node v's word.
-pub fn word_at(nb: &[u32], v: u8) -> u32
-    ensures { λ r. ⌜ r ≡ getD (now (nb .entry)) v 0 ⌝ }
-{
-    let at = v as usize;
-    if at < nb.len() { nb[at] } else { 0 }
-}
-
 // The backbone of a topology with these isolated nodes.
 pub fn backbone(n: u8, iso: u32) -> u32
     requires { ⌜ (1 ≤ n) × (n ≤ 32) ⌝ }
@@ -63,7 +57,7 @@ fn reach(nb: &[u32], bb: u32, root: u8) -> u32
             return w;
         }
         let v = lowest(left);
-        let near = both(word_at(nb, v), bb);
+        let near = both(word(nb, v as usize), bb);
         w = either(w, near);
         done = adding(done, v);
     }
@@ -85,7 +79,7 @@ fn served(nb: &[u32], iso: u32, bb: u32, v: u8) -> bool
     ensures { λ r. ⌜ r ≡ servedBy (now (nb .entry)) iso bb v ⌝ }
 {
     if has(iso, v) {
-        return size(both(word_at(nb, v), bb)) >= 2;
+        return size(both(word(nb, v as usize), bb)) >= 2;
     }
     true
 }
@@ -193,20 +187,31 @@ fn in_turn(file: &[u8], net: Network, nb: &[u32]) -> Verdict
     Verdict::Accepted
 }
 
+// The same, with the neighbour words of the set's own links.
+fn by_words(file: &[u8], net: Network) -> Verdict
+    requires { ⌜ judge (now file) ≡ Accepted ⌝ }
+    requires { ⌜ net ≡ headerOf (now file) ⌝ }
+    requires { ⌜ needSet net ≡ Accepted ⌝ }
+    ensures { λ r. ⌜ r ≡ topologies (setOf (now (file .entry))) ⌝ }
+{
+    let nb = neighbour_words(file, net.m);
+    in_turn(file, net, &nb)
+}
+
 // A file that the judge accepts: a set is needed, then its topologies in turn.
 fn set_verdict(file: &[u8]) -> Verdict
     requires { ⌜ judge (now file) ≡ Accepted ⌝ }
     ensures { λ r. ⌜ r ≡ andThen (needSet (headerOf (now (file .entry)))) (topologies (setOf (now (file .entry)))) ⌝ }
 {
     let net = header(file);
-    if net.k == 0 {
-        return Verdict::Refused {
-            number: 13,
-            place: 0,
-        };
+    let set = need_set(net);
+    match set {
+        Verdict::Accepted => by_words(file, net),
+        Verdict::Refused {
+            number: _,
+            place: _,
+        } => set,
     }
-    let nb = neighbour_words(file, net.m);
-    in_turn(file, net, &nb)
 }
 
 // 01's verdict on a set's bytes.

@@ -103,7 +103,13 @@ fn weights(file: &[u8], net: Network, j: usize) -> u8
     while l < m {
         let home_a = home_topology(file, net, end_a(file, l) as usize);
         let home_b = home_topology(file, net, end_b(file, l) as usize);
-        let number = recordrules::weight(net.wmax, j + 1, home_a, home_b, row_weight(file, net, j, l));
+        let number = recordrules::weight(
+            net.wmax,
+            j + 1,
+            home_a,
+            home_b,
+            row_weight(file, net, j, l),
+        );
         if number != 0 {
             return number;
         }

@@ -3,7 +3,6 @@ use mathlib.Core.Path.{_≡_, sym, _∙_}
 use mathlib.Core.List.{List}
 use Prim.Native.Nat.{ℕ, _*_, _≤_}
 use lib.ListN.{length}
-use borrow.Author.Tests.{leb-true}
 use Rattle.rules.specs.declared.Network.{Network}
 use Rattle.rules.specs.declared.Verdict.{Verdict}
 use Rattle.rules.specs.declared.Verdict.the-variants.{Accepted, Refused}
@@ -11,37 +10,18 @@ use Rattle.rules.specs.declared.ReadAnswer.the-variants as read
 use Rattle.rules.specs.Basics.{upTo, flat, laid}
 use Rattle.rules.specs.Limits.{homeRecords, rowWeights}
 use Rattle.rules.specs.File.{headerOf, endA, endB, linkWeight, homeTopology, setOf}
-use Rattle.rules.specs.Judgement.{refuse, judge}
+use Rattle.rules.specs.Judgement.{andThen, judge}
 use Rattle.rules.specs.Answers.{tell, readTells}
 use Rattle.rules.specs.Entries.{Lists, lists, Promise, onAccept, needLists, listsWith, readEntry}
-use Rattle.rules.proofs.Choices.{need-ok, refuse-no, refuse-ok, refuse-zero, then-second}
-use Rattle.housefile.specs.Rules.{listsRule}
-use Rattle.reader.specs.Reading.{rowOf, listsOf, Room, roomVerdict, readVerdict}
+use Rattle.rules.proofs.Choices.{then-second}
+use Rattle.needs.specs.Numbers.{listsRule, listsVerdict}
+use Rattle.needs.proofs.Laws.{lists-long}
+use Rattle.reader.specs.Reading.{rowOf, listsOf, Room, readVerdict}
 
--- ---- the lists' lengths
-
-module _ (h : Network) (a b w hs rs nodes entries number : ℕ) (e : number ≡ listsRule 14 h a b w hs rs nodes entries) (n : nodes ≡ homeRecords h)
-    (k : entries ≡ h .k * rowWeights h) where
-  room-is : refuse number 0 ≡ roomVerdict h a b w hs rs
-  unfolding roomVerdict
-  room-is = rw (e, n, k)
-
-  pub room-short : (number ≡ 0 → ⊥) → Refused number 0 ≡ roomVerdict h a b w hs rs
-  room-short t = refuse-no number 0 t ∙ room-is
-
-  pub room-enough : number ≡ 0 → Accepted ≡ roomVerdict h a b w hs rs
-  room-enough t = refuse-ok number 0 t ∙ room-is
-
-room-code : (h : Network) (a b w hs rs nodes entries : ℕ) → listsRule 14 h a b w hs rs nodes entries ≡ 0
-    → (h .m ≤ a) × (h .m ≤ b) × (h .m ≤ w) × (nodes ≤ hs) × (entries ≤ rs)
-unfolding listsRule
-room-code h a b w hs rs nodes entries e =
-    let p1 = need-ok _ _ _ e in
-    let p2 = need-ok _ _ _ (p1 .1) in
-    let p3 = need-ok _ _ _ (p2 .1) in
-    let p4 = need-ok _ _ _ (p3 .1) in
-    let p5 = need-ok _ _ _ (p4 .1) in
-    (leb-true _ _ (p1 .0), leb-true _ _ (p2 .0), leb-true _ _ (p3 .0), leb-true _ _ (p4 .0), leb-true _ _ (p5 .0))
+pub verdict-on-is : (s : List ℕ) (h : Network) (a b weights homes rows : ℕ) (u w v : Verdict) → u ≡ judge s → w ≡ listsVerdict 14 h a b weights homes rows → v ≡ andThen u w
+    → v ≡ readVerdict s h a b weights homes rows
+unfolding readVerdict
+verdict-on-is s h a b weights homes rows u w v p q e = e ∙ rw (p, q)
 
 -- ---- all lists
 
@@ -58,15 +38,15 @@ module _ (s a b w hs rs : List ℕ) (h : Network) (v : Verdict)
     (p : v ≡ readVerdict s h (length a) (length b) (length w) (length hs) (length rs)) (q : h ≡ headerOf s) where
   -- the published verdict
   verdict-is : v ≡ readEntry .verdict s (lists a b w hs rs)
-  unfolding readVerdict roomVerdict listsRule readEntry needLists
+  unfolding readVerdict listsVerdict listsRule readEntry needLists
   verdict-is = p ∙ rw q
 
   -- an accepted call has room
   pub read-room : v ≡ Accepted → Room h (lists a b w hs rs)
-  unfolding readVerdict roomVerdict
+  unfolding readVerdict
   read-room t =
-      let z = room-code _ _ _ _ _ _ _ _ (refuse-zero _ _ (then-second (judge s) (roomVerdict h (length a) (length b) (length w) (length hs) (length rs)) (sym p ∙ t))) in
-      record { a = z .0; b = z .1; weights = z .2; homes = z .3; rows = z .4 }
+      let z = lists-long 13 h (length a) (length b) (length w) (length hs) (length rs) (then-second (judge s) _ (sym p ∙ t)) in
+      record { a = z .a-long; b = z .b-long; weights = z .weights-long; homes = z .homes-long; rows = z .rows-long }
 
   pub read-taken : (e : Lists) → v ≡ Accepted → e ≡ listsOf s h (lists a b w hs rs) → Promise readEntry s (lists a b w hs rs) (read.Read h) e
   unfolding readEntry readTells tell onAccept listsOf rowOf listsWith setOf
@@ -80,4 +60,4 @@ module _ (s a b w hs rs : List ℕ) (h : Network) (v : Verdict)
       let refused : readEntry .verdict s (lists a b w hs rs) ≡ Refused number place = sym verdict-is ∙ t in
       record { answer = rw refused; lent = rw refused }
 
-pub ruleset reading = (room-short, room-enough, read-room, read-taken, read-refused)
+pub ruleset reading = (verdict-on-is, read-room, read-taken, read-refused)

@@ -7,9 +7,9 @@ use Rattle.rules.specs.declared.Verdict.{Verdict}
 use Rattle.rules.specs.Basics.{upTo, flat, laid}
 use Rattle.rules.specs.Limits.{homeRecords, rowWeights}
 use Rattle.rules.specs.File.{two, endA, endB, linkWeight, homeTopology, rowWeight}
-use Rattle.rules.specs.Judgement.{refuse, andThen, judge}
+use Rattle.rules.specs.Judgement.{andThen, judge}
 use Rattle.rules.specs.Entries.{Lists, lists}
-use Rattle.housefile.specs.Rules.{listsRule}
+use Rattle.needs.specs.Numbers.{listsVerdict}
 
 -- the bytes at equal distances, and the numbers of two bytes
 unfoldable pub byteAt : List ℕ → ℕ → ℕ → ℕ → ℕ
@@ -37,8 +37,6 @@ pub record Room (h : Network) (d : Lists) : Type 0 where
   pub homes : homeRecords h ≤ length (d .homes)
   pub rows : h .k * rowWeights h ≤ length (d .rows)
 
-unfoldable pub roomVerdict : Network → ℕ → ℕ → ℕ → ℕ → ℕ → Verdict
-roomVerdict h a b weights homes rows = refuse (listsRule 14 h a b weights homes rows (homeRecords h) (h .k * rowWeights h)) 0
-
+-- 1 to 6, then 14
 unfoldable pub readVerdict : List ℕ → Network → ℕ → ℕ → ℕ → ℕ → ℕ → Verdict
-readVerdict s h a b weights homes rows = andThen (judge s) (roomVerdict h a b weights homes rows)
+readVerdict s h a b weights homes rows = andThen (judge s) (listsVerdict 14 h a b weights homes rows)

@@ -1,12 +1,17 @@
 // Reading a house file into lent lists. `read` promises 01's answer for any bytes and any lists: the header's counts with the
 // file's fields at the front of each list, or the refusal by number and place with every list as it came. Entries past the counts
 // stay as they came. The functions that fill one list each may be called where their lists are long enough.
-use housefile::byte;
-use housefile::rule;
-use housefile::two;
+use judgement::judge;
+use layout::header;
+use layout::home_place;
+use layout::row_place;
+use needs::need_lists;
+use needs::then;
 use rules::Network;
 use rules::ReadAnswer;
 use rules::Verdict;
+use slices::byte;
+use slices::two;
 ghost use mathlib.Core.Path.{_≡_};
 ghost use Prim.Native.Nat.{_*_, _<_, _≤_};
 ghost use lib.ListN.{length};
@@ -14,7 +19,7 @@ ghost use Rattle.rules.specs.Basics.{upTo, flat, laid};
 ghost use Rattle.rules.specs.Limits.{rowWeights};
 ghost use Rattle.rules.specs.File.{endA, endB, linkWeight, homeTopology, rowWeight};
 ghost use Rattle.rules.specs.Entries.{lists, Promise, readEntry};
-ghost use Rattle.reader.specs.Reading.{byteAt, twoAt, rowOf, roomVerdict, readVerdict, Room, listsOf};
+ghost use Rattle.reader.specs.Reading.{byteAt, twoAt, rowOf, readVerdict, Room, listsOf};
 
 // ---- one list
 
@@ -75,13 +80,7 @@ pub fn homes_into(file: &[u8], net: Network, count: usize, out: &mut [u8])
     requires { ⌜ (count ≤ length (now out)) × (count < 1048576) ⌝ }
     ensures { λ _. ⌜ now (out .exit) ≡ laid (upTo (homeTopology (now (file .entry)) net) count) (now (out .entry)) ⌝ }
 {
-    bytes_into(
-        file,
-        housefile::home_place(net, 0) + 3,
-        Network::HOME,
-        count,
-        out,
-    );
+    bytes_into(file, home_place(net, 0) + 3, Network::HOME, count, out);
 }
 
 // The weights of the row of topology j + 1.
@@ -91,7 +90,7 @@ pub fn row_into(file: &[u8], net: Network, j: usize, count: usize, out: &mut [u1
 {
     twos_into(
         file,
-        housefile::row_place(net, j) + Network::ROW_HEAD,
+        row_place(net, j) + Network::ROW_HEAD,
         Network::WEIGHT,
         count,
         out,
@@ -103,7 +102,7 @@ pub fn rows_into(file: &[u8], net: Network, out: &mut [u16])
     requires { ⌜ net .k * rowWeights net ≤ length (now out) ⌝ }
     ensures { λ _. ⌜ now (out .exit) ≡ laid (flat (rowOf (now (file .entry)) net) (net .k)) (now (out .entry)) ⌝ }
 {
-    let long = housefile::row_weights(net);
+    let long = net.row_weights();
     let k = net.k as usize;
     let mut j = 0;
     let mut base = 0;
@@ -133,30 +132,11 @@ pub fn lists_into(
     ends_a_into(file, m, a);
     ends_b_into(file, m, b);
     weights_into(file, m, weights);
-    homes_into(file, net, housefile::home_records(net), homes);
+    homes_into(file, net, net.home_records(), homes);
     rows_into(file, net, rows);
 }
 
-// How many weights the rows have together.
-pub fn row_entries(net: Network) -> usize
-    ensures { λ r. ⌜ r ≡ net .k * rowWeights net ⌝ }
-{
-    (net.k as usize) * housefile::row_weights(net)
-}
-
-// Whether lists of these lengths hold what a file with these counts has.
-fn room(net: Network, a: usize, b: usize, weights: usize, homes: usize, rows: usize) -> Verdict
-    ensures { λ r. ⌜ r ≡ roomVerdict net a b weights homes rows ⌝ }
-{
-    let nodes = housefile::home_records(net);
-    let number = rule::lists(14, net, a, b, weights, homes, rows, nodes, row_entries(net));
-    if number != 0 {
-        return Verdict::Refused { number, place: 0 };
-    }
-    Verdict::Accepted
-}
-
-// The file judged, and then the room.
+// The file judged, and then the lists: 14 where one is too short.
 fn verdict_on(
     file: &[u8],
     net: Network,
@@ -168,14 +148,8 @@ fn verdict_on(
 ) -> Verdict
     ensures { λ r. ⌜ r ≡ readVerdict (now (file .entry)) net a b weights homes rows ⌝ }
 {
-    let v = housefile::judge(file);
-    match v {
-        Verdict::Accepted => room(net, a, b, weights, homes, rows),
-        Verdict::Refused {
-            number: _,
-            place: _,
-        } => v,
-    }
+    let room = need_lists(14, net, a, b, weights, homes, rows);
+    then(judge(file), room)
 }
 
 // Reads a file into the lent lists: link ends a and b, link weights, homes, backup weights row by row.
@@ -189,7 +163,7 @@ pub fn read(
 ) -> ReadAnswer
     ensures { λ r. ⌜ Promise readEntry (now (file .entry)) (lists (now (a .entry)) (now (b .entry)) (now (weights .entry)) (now (homes .entry)) (now (rows .entry))) r (lists (now (a .exit)) (now (b .exit)) (now (weights .exit)) (now (homes .exit)) (now (rows .exit))) ⌝ }
 {
-    let net = housefile::header(file);
+    let net = header(file);
     let v = verdict_on(
         file,
         net,

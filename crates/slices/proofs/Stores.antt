@@ -81,4 +81,3 @@ unfolding put laid
 put-laid new old h =
     let e : 0 + length new ≡ length new = omega arith in
     sets-eq new old 0 (omega arith) ∙ ap (λ (x : ℕ). new ++ drop x old) e
-

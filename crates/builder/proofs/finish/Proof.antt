@@ -12,17 +12,26 @@ header-requires c κs = search needs
 file-length-requires : tie.Need-file-length-requires
 file-length-requires c κs = search needs
 
-returns : tie.Need-returns
-returns c = search no-room
+need-room-requires : tie.Need-need-room-requires
+need-room-requires c κs = search needs
+
+enum-told : tie.Need-enum-told
+enum-told c = search needs
 
 put-set-requires : tie.Need-put-set-requires
 put-set-requires c κs = search needs
 
+enum-known-room : tie.Need-enum-known-room
+enum-known-room c = search needs
+
 same-length : tie.Need-same-length
 same-length c = search needs
 
+returns : tie.Need-returns
+returns c = search room
+
 returns-2 : tie.Need-returns-2
-returns-2 c = search room
+returns-2 c = search no-room
 
 pub finish-spec : {M : Type 1} → statement M
 finish-spec =
@@ -31,7 +40,10 @@ finish-spec =
     highest-requires
     header-requires
     file-length-requires
-    returns
+    need-room-requires
+    enum-told
     put-set-requires
+    enum-known-room
     same-length
+    returns
     returns-2)

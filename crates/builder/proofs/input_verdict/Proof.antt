@@ -1,38 +1,37 @@
-use Rattle.builder.proofs.Answers.{input-on}
-use Rattle.rules.proofs.Choices.{then-stop}
+use Rattle.builder.proofs.Answers.{input-is}
 use borrow.Author.Needs.{needs}
 use Rattle.builder.proofs.input_verdict.Statement.{statement}
 use Rattle.builder.proofs.input_verdict.Tie as tie
 
-judge-requires : tie.Need-judge-requires
-judge-requires c κs = search needs
-
-enum-told : tie.Need-enum-told
-enum-told c = search needs
-
 header-requires : tie.Need-header-requires
 header-requires c κs = search needs
 
-cap-verdict-requires : tie.Need-cap-verdict-requires
-cap-verdict-requires c κs = search needs
+need-graph-requires : tie.Need-need-graph-requires
+need-graph-requires c κs = search needs
 
-enum-told-2 : tie.Need-enum-told-2
-enum-told-2 c = search needs
+need-cap-requires : tie.Need-need-cap-requires
+need-cap-requires c κs = search needs
+
+judge-requires : tie.Need-judge-requires
+judge-requires c κs = search needs
+
+then-requires : tie.Need-then-requires
+then-requires c κs = search needs
+
+then-requires-2 : tie.Need-then-requires-2
+then-requires-2 c κs = search needs
 
 returns : tie.Need-returns
-returns c = search input-on
-
-returns-2 : tie.Need-returns-2
-returns-2 c = search then-stop
+returns c = search input-is
 
 pub input-verdict-spec : {M : Type 1} → statement M
 input-verdict-spec =
     tie.close
     (tie.spec
-    judge-requires
-    enum-told
     header-requires
-    cap-verdict-requires
-    enum-told-2
-    returns
-    returns-2)
+    need-graph-requires
+    need-cap-requires
+    judge-requires
+    then-requires
+    then-requires-2
+    returns)

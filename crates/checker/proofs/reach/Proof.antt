@@ -26,8 +26,11 @@ returns c = search grow-done
 lowest-requires : tie.Need-lowest-requires Inv-loop μ-loop
 lowest-requires c κs = search needs
 
-word-at-requires : tie.Need-word-at-requires Inv-loop μ-loop
-word-at-requires c κs = search needs
+cast-word : tie.Need-cast-word Inv-loop μ-loop
+cast-word c = search needs
+
+word-requires : tie.Need-word-requires Inv-loop μ-loop
+word-requires c κs = search needs
 
 both-requires : tie.Need-both-requires Inv-loop μ-loop
 both-requires c κs = search needs
@@ -55,7 +58,8 @@ reach-spec =
     minus-requires
     returns
     lowest-requires
-    word-at-requires
+    cast-word
+    word-requires
     both-requires
     either-requires
     adding-requires

@@ -6,8 +6,8 @@ use Rattle.checker.proofs.served.Tie as tie
 has-requires : tie.Need-has-requires
 has-requires c κs = search needs
 
-word-at-requires : tie.Need-word-at-requires
-word-at-requires c κs = search needs
+word-requires : tie.Need-word-requires
+word-requires c κs = search needs
 
 both-requires : tie.Need-both-requires
 both-requires c κs = search needs
@@ -23,5 +23,4 @@ returns-2 c = search served-out
 
 pub served-spec : {M : Type 1} → statement M
 served-spec =
-    tie.close
-    (tie.spec has-requires word-at-requires both-requires size-requires returns returns-2)
+    tie.close (tie.spec has-requires word-requires both-requires size-requires returns returns-2)

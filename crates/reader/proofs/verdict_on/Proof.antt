@@ -1,29 +1,19 @@
+use Rattle.reader.proofs.Promised.{reading}
 use borrow.Author.Needs.{needs}
-use Rattle.rules.proofs.Choices.{turns}
-use Rattle.reader.specs.Reading.{readVerdict}
 use Rattle.reader.proofs.verdict_on.Statement.{statement}
 use Rattle.reader.proofs.verdict_on.Tie as tie
+
+need-lists-requires : tie.Need-need-lists-requires
+need-lists-requires c κs = search needs
 
 judge-requires : tie.Need-judge-requires
 judge-requires c κs = search needs
 
-enum-told : tie.Need-enum-told
-enum-told c = search needs
-
-room-requires : tie.Need-room-requires
-room-requires c κs = search needs
-
-enum-told-2 : tie.Need-enum-told-2
-enum-told-2 c = search needs
+then-requires : tie.Need-then-requires
+then-requires c κs = search needs
 
 returns : tie.Need-returns
-unfolding readVerdict
-returns c = search turns
-
-returns-2 : tie.Need-returns-2
-unfolding readVerdict
-returns-2 c = search turns
+returns c = search reading
 
 pub verdict-on-spec : {M : Type 1} → statement M
-verdict-on-spec =
-    tie.close (tie.spec judge-requires enum-told room-requires enum-told-2 returns returns-2)
+verdict-on-spec = tie.close (tie.spec need-lists-requires judge-requires then-requires returns)

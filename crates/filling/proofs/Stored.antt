@@ -12,20 +12,20 @@ use borrow.Author.Tests.{eq-eqb, ne-eqb}
 use Rattle.rules.specs.declared.Network.{Network}
 use Rattle.rules.specs.Basics.{flat}
 use Rattle.rules.specs.Limits.{homeRecords, rowLength, rowWeights, linkPlace, homePlace, rowPlace}
-use Rattle.rules.specs.File.{bytes2, headerBytes, homeBytes, endA, endB, linkWeight}
+use Rattle.rules.specs.File.{bytes2, headerBytes, endA, endB, linkWeight}
 use Rattle.rules.specs.Isolation.{classBy}
 use Rattle.rules.specs.Building.{onNormal}
-use Rattle.rules.specs.Entries.{setWith}
 use Rattle.rules.proofs.Rows.{length-flat}
-use Rattle.writer.specs.Parts.{homesOnly, put}
-use Rattle.writer.proofs.Stores.{put-then, Storing, storing-more}
-use Rattle.builder.specs.Stores.{linkCopy, weightIn, filledBytes, filledRow, filledFile}
+use Rattle.slices.specs.Stores.{put}
+use Rattle.slices.proofs.Stores.{put-then, Storing, storing-more}
+use Rattle.layout.specs.Records.{linkRecord, homeRecord, homeOf, rowHead}
+use Rattle.filling.specs.Filled.{linkCopy, weightIn, filledBytes, filledRow, filledFile}
 
 -- ---- links
 
 pub link-copied : (s d e e′ : List ℕ) (l m at a b w : ℕ) → Storing d e (linkPlace 0) (linkCopy s) l m → l < m → at ≡ linkPlace l → a ≡ endA s l → b ≡ endB s l → w ≡ linkWeight s l
-    → e′ ≡ put e at (0x4C ∷ 0x4B ∷ a ∷ b ∷ bytes2 w) → Storing d e′ (linkPlace 0) (linkCopy s) (l + 1) m
-unfolding linkPlace linkCopy bytes2
+    → e′ ≡ put e at (linkRecord a b w) → Storing d e′ (linkPlace 0) (linkCopy s) (l + 1) m
+unfolding linkPlace linkCopy linkRecord bytes2
 link-copied s d e e′ l m at a b w S g ep ea eb ew q = storing-more d e e′ 8 (linkCopy s) l m at 6 _ S g (λ i _. refl) (omega arith) (rw (ea, eb, ew)) q
 
 -- ---- rows
@@ -57,14 +57,14 @@ unfolding filledBytes bytes2
 weight-filled s homes d e e′ base i x m l w S g el ew q =
     storing-more d e e′ base (filledBytes s homes i) x m (base + 2 * l) 2 _ S g (λ y _. refl) (omega arith) (ap bytes2 (ew ∙ ap (weightIn s homes i) el)) q
 
-pub row-filled : (s homes d e e′ : List ℕ) (m at i j : ℕ) → i ≡ j + 1 → e ≡ put d at (0x42 ∷ 0x57 ∷ i ∷ []) → e′ ≡ put e (at + 3) (flat (filledBytes s homes i) m) → e′ ≡ put d at (filledRow s homes m j)
-unfolding filledRow
+pub row-filled : (s homes d e e′ : List ℕ) (m at i j : ℕ) → i ≡ j + 1 → e ≡ put d at (rowHead i) → e′ ≡ put e (at + 3) (flat (filledBytes s homes i) m) → e′ ≡ put d at (filledRow s homes m j)
+unfolding filledRow rowHead
 row-filled s homes d e e′ m at i j ei p q =
     put-then d e e′ at (at + 3) (0x42 ∷ 0x57 ∷ i ∷ []) (flat (filledBytes s homes i) m) p q refl
     ∙ ap (λ (x : ℕ). put d at (0x42 ∷ 0x57 ∷ x ∷ flat (filledBytes s homes x) m)) (ei ∙ add-one j)
 
 filled-long : (s homes : List ℕ) (h : Network) (j : ℕ) → length (filledRow s homes (h .m) j) ≡ rowLength h
-unfolding filledRow rowLength rowWeights filledBytes bytes2
+unfolding filledRow rowHead rowLength rowWeights filledBytes bytes2
 filled-long s homes h j = let e = length-flat (filledBytes s homes (suc j)) 2 (h .m) (λ x l. refl) in omega arith
 
 pub rows-filled : (s homes d e e′ : List ℕ) (h : Network) (j k at : ℕ) → Storing d e (rowPlace h 0) (filledRow s homes (h .m)) j k → j < k → at ≡ rowPlace h j
@@ -76,15 +76,15 @@ rows-filled s homes d e e′ h j k at S g ep q =
 -- ---- the whole file
 
 pub file-filled : (s homes d e f g r : List ℕ) (h : Network) (n : ℕ) → e ≡ put d 0 (headerBytes h) → f ≡ put e (linkPlace 0) (flat (linkCopy s) (h .m)) → n ≡ homeRecords h
-    → g ≡ put f (homePlace h 0) (flat (homeBytes (homesOnly h homes)) n) → r ≡ put g (rowPlace h 0) (flat (filledRow s homes (h .m)) (h .k)) → r ≡ put d 0 (filledFile s homes h)
-unfolding filledFile linkPlace homePlace rowPlace linkCopy homeBytes headerBytes bytes2 setWith
+    → g ≡ put f (homePlace h 0) (flat (homeOf homes) n) → r ≡ put g (rowPlace h 0) (flat (filledRow s homes (h .m)) (h .k)) → r ≡ put d 0 (filledFile s homes h)
+unfolding filledFile linkPlace homePlace rowPlace linkCopy linkRecord homeOf homeRecord headerBytes bytes2
 file-filled s homes d e f g r h n p q en t u =
     let L = flat (linkCopy s) (h .m) in
-    let H = flat (homeBytes (homesOnly h homes)) (homeRecords h) in
+    let H = flat (homeOf homes) (homeRecords h) in
     let R = flat (filledRow s homes (h .m)) (h .k) in
     let a = length-flat (linkCopy s) 6 (h .m) (λ x l. refl) in
-    let b = length-flat (homeBytes (homesOnly h homes)) 4 (homeRecords h) (λ x l. refl) in
-    let t′ : g ≡ put f (8 + 6 * h .m + 4 * 0) H = t ∙ ap (λ (x : ℕ). put f (8 + 6 * h .m + 4 * 0) (flat (homeBytes (homesOnly h homes)) x)) en in
+    let b = length-flat (homeOf homes) 4 (homeRecords h) (λ x l. refl) in
+    let t′ : g ≡ put f (8 + 6 * h .m + 4 * 0) H = t ∙ ap (λ (x : ℕ). put f (8 + 6 * h .m + 4 * 0) (flat (homeOf homes) x)) en in
     let hr = put-then f g r (8 + 6 * h .m + 4 * 0) _ H R t′ u (rw zero-mul (omega arith)) in
     let lhr = put-then e f r 8 _ L (H ++ R) q hr (omega arith) in
     put-then d e r 0 8 (headerBytes h) (L ++ (H ++ R)) p lhr refl

@@ -1,10 +1,10 @@
 use Prim.Native.Nat.{_-_}
-use Rattle.builder.proofs.Stored.{weight-filled}
-use Rattle.builder.specs.Stores.{filledBytes}
-use Rattle.writer.proofs.Stores.{Storing, storing-done, storing-none}
+use Rattle.filling.proofs.Stored.{weight-filled}
+use Rattle.filling.specs.Filled.{filledBytes}
+use Rattle.slices.proofs.Stores.{Storing, storing-done, storing-none}
 use borrow.Author.Needs.{needs}
-use Rattle.builder.proofs.store.put_weights.Statement.{statement}
-use Rattle.builder.proofs.store.put_weights.Tie as tie
+use Rattle.filling.proofs.put_weights.Statement.{statement}
+use Rattle.filling.proofs.put_weights.Tie as tie
 
 abbrev Inv-loop : tie.InvT-loop
 Inv-loop graph homes file₀ m at i x₀ file x = Storing file₀ file at (filledBytes graph homes i) x m

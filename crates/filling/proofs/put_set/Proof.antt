@@ -1,7 +1,7 @@
-use Rattle.builder.proofs.Stored.{file-filled}
+use Rattle.filling.proofs.Stored.{file-filled}
 use borrow.Author.Needs.{needs}
-use Rattle.builder.proofs.store.put_set.Statement.{statement}
-use Rattle.builder.proofs.store.put_set.Tie as tie
+use Rattle.filling.proofs.put_set.Statement.{statement}
+use Rattle.filling.proofs.put_set.Tie as tie
 
 header-requires : tie.Need-header-requires
 header-requires c κs = search needs

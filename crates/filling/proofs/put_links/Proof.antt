@@ -1,11 +1,11 @@
 use Prim.Native.Nat.{_-_}
-use Rattle.builder.proofs.Stored.{link-copied}
-use Rattle.builder.specs.Stores.{linkCopy}
+use Rattle.filling.proofs.Stored.{link-copied}
+use Rattle.filling.specs.Filled.{linkCopy}
 use Rattle.rules.specs.Limits.{linkPlace}
-use Rattle.writer.proofs.Stores.{Storing, storing-done, storing-none}
+use Rattle.slices.proofs.Stores.{Storing, storing-done, storing-none}
 use borrow.Author.Needs.{needs}
-use Rattle.builder.proofs.store.put_links.Statement.{statement}
-use Rattle.builder.proofs.store.put_links.Tie as tie
+use Rattle.filling.proofs.put_links.Statement.{statement}
+use Rattle.filling.proofs.put_links.Tie as tie
 
 abbrev Inv-loop : tie.InvT-loop
 Inv-loop graph file₀ m x₀ file x = Storing file₀ file (linkPlace 0) (linkCopy graph) x m

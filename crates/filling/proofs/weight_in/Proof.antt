@@ -1,7 +1,7 @@
-use Rattle.builder.proofs.Stored.{weight-a, weight-b, weight-normal}
+use Rattle.filling.proofs.Stored.{weight-a, weight-b, weight-normal}
 use borrow.Author.Needs.{needs}
-use Rattle.builder.proofs.store.weight_in.Statement.{statement}
-use Rattle.builder.proofs.store.weight_in.Tie as tie
+use Rattle.filling.proofs.weight_in.Statement.{statement}
+use Rattle.filling.proofs.weight_in.Tie as tie
 
 end-a-requires : tie.Need-end-a-requires
 end-a-requires c κs = search needs

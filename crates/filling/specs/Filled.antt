@@ -1,19 +1,19 @@
--- The bytes of a set that is built: links as in the graph's file, homes as first fit gives them, rows filled by class.
-use mathlib.Core.List.{List, _∷_, _++_}
+-- The bytes of a set that is filled: links as in the graph's file, homes as they are given, rows by class.
+use mathlib.Core.List.{List, _++_}
 use Prim.Native.Nat.{ℕ, suc}
 use lib.Dec.{eqb}
 use lib.ListN.{getD}
 use Rattle.rules.specs.declared.Network.{Network}
 use Rattle.rules.specs.Basics.{flat}
 use Rattle.rules.specs.Limits.{homeRecords}
-use Rattle.rules.specs.File.{bytes2, headerBytes, homeBytes, endA, endB, linkWeight}
+use Rattle.rules.specs.File.{bytes2, headerBytes, endA, endB, linkWeight}
 use Rattle.rules.specs.Isolation.{classBy}
 use Rattle.rules.specs.Building.{onNormal}
-use Rattle.writer.specs.Parts.{homesOnly}
+use Rattle.layout.specs.Records.{linkRecord, homeOf, rowHead}
 
 -- link l's record, as in the graph's file
 unfoldable pub linkCopy : List ℕ → ℕ → List ℕ
-linkCopy s l = 0x4C ∷ 0x4B ∷ endA s l ∷ endB s l ∷ bytes2 (linkWeight s l)
+linkCopy s l = linkRecord (endA s l) (endB s l) (linkWeight s l)
 
 -- link l's weight in the row of topology i: topology 0's where the link is normal, and 0 elsewhere
 unfoldable pub weightIn : List ℕ → List ℕ → ℕ → ℕ → ℕ
@@ -24,10 +24,10 @@ filledBytes s homes i l = bytes2 (weightIn s homes i l)
 
 -- the row of topology j + 1, with m weights
 unfoldable pub filledRow : List ℕ → List ℕ → ℕ → ℕ → List ℕ
-filledRow s homes m j = 0x42 ∷ 0x57 ∷ suc j ∷ flat (filledBytes s homes (suc j)) m
+filledRow s homes m j = rowHead (suc j) ++ flat (filledBytes s homes (suc j)) m
 
 -- the whole file: header, links, homes, rows
 unfoldable pub filledFile : List ℕ → List ℕ → Network → List ℕ
 filledFile s homes h =
     headerBytes h
-    ++ (flat (linkCopy s) (h .m) ++ (flat (homeBytes (homesOnly h homes)) (homeRecords h) ++ flat (filledRow s homes (h .m)) (h .k)))
+    ++ (flat (linkCopy s) (h .m) ++ (flat (homeOf homes) (homeRecords h) ++ flat (filledRow s homes (h .m)) (h .k)))

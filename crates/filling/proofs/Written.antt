@@ -9,22 +9,22 @@ use Rattle.rules.specs.Limits.{rowWeights, homeRecords, fileLength}
 use Rattle.rules.specs.File.{setOf, headerOf, bytes2, headerBytes, linkBytes, homeBytes, rowStart, rowBytes, encode}
 use Rattle.rules.specs.Isolation.{class, home}
 use Rattle.rules.specs.Building.{withHomes, onNormal, highest, filled}
-use Rattle.rules.specs.Entries.{setWith}
 use Rattle.rules.proofs.Rows.{length-upTo, getD-upTo, getD-flat, flat-ext}
 use Rattle.rules.proofs.Held.{isolated-by-home, a-held, b-held, weight-held}
 use Rattle.rules.proofs.Encoded.{encode-long}
-use Rattle.writer.specs.Parts.{homesOnly, put}
-use Rattle.writer.proofs.Stores.{put-laid}
-use Rattle.builder.specs.Stores.{linkCopy, weightIn, filledBytes, filledRow, filledFile}
+use Rattle.slices.specs.Stores.{put}
+use Rattle.slices.proofs.Stores.{put-laid}
+use Rattle.layout.specs.Records.{linkRecord, homeRecord, homeOf, rowHead}
+use Rattle.filling.specs.Filled.{linkCopy, weightIn, filledBytes, filledRow, filledFile}
 
 module _ (s homes : List ℕ) where
   link-is : (l : ℕ) → l < headerOf s .m → linkCopy s l ≡ linkBytes (filled (setOf s) homes) l
-  unfolding linkCopy linkBytes filled
+  unfolding linkCopy linkRecord linkBytes filled
   link-is l h = rw (a-held s l h, b-held s l h, weight-held s l h)
 
-  home-is : (h : Network) (v : ℕ) → homeBytes (homesOnly h homes) v ≡ homeBytes (filled (setOf s) homes) v
-  unfolding homeBytes filled setWith
-  home-is h v = refl
+  home-is : (v : ℕ) → homeOf homes v ≡ homeBytes (filled (setOf s) homes) v
+  unfolding homeOf homeRecord homeBytes filled
+  home-is v = refl
 
   weight-is : (j x : ℕ) → x < headerOf s .m → weightIn s homes (suc j) x ≡ onNormal (class (withHomes (setOf s) homes) (suc j) x) (getD (setOf s .weights) x 0)
   unfolding weightIn class withHomes home
@@ -41,7 +41,7 @@ module _ (s homes : List ℕ) where
       ∙ sym (weight-is j x hx)
 
   row-is : (j : ℕ) → j < highest homes (headerOf s .n) → filledRow s homes (headerOf s .m) j ≡ rowBytes (filled (setOf s) homes) j
-  unfolding filledRow rowBytes filledBytes rowWeights setOf filled
+  unfolding filledRow rowHead rowBytes filledBytes rowWeights setOf filled
   row-is j h =
       ap (λ (l : List ℕ). 0x42 ∷ 0x57 ∷ suc j ∷ l)
       (flat-ext (filledBytes s homes (suc j)) (λ x. bytes2 (getD (filled (setOf s) homes .rows) (rowStart (filled (setOf s) homes .net) j + x) 0)) (headerOf s .m) (λ x hx. ap bytes2 (sym (row-held-is j x h hx))))
@@ -51,7 +51,7 @@ module _ (s homes : List ℕ) where
   file-is h e =
       rw e
       (ap₂ (λ (l r : List ℕ). headerBytes (filled (setOf s) homes .net) ++ (l ++ r)) (flat-ext (linkCopy s) (linkBytes (filled (setOf s) homes)) (headerOf s .m) link-is)
-      (ap₂ _++_ (flat-ext (homeBytes (homesOnly (filled (setOf s) homes .net) homes)) (homeBytes (filled (setOf s) homes)) (homeRecords (filled (setOf s) homes .net)) (λ v l. home-is (filled (setOf s) homes .net) v))
+      (ap₂ _++_ (flat-ext (homeOf homes) (homeBytes (filled (setOf s) homes)) (homeRecords (filled (setOf s) homes .net)) (λ v l. home-is v))
       (flat-ext (filledRow s homes (headerOf s .m)) (rowBytes (filled (setOf s) homes)) (highest homes (headerOf s .n)) row-is)))
 
   pub written-is : (d : List ℕ) (h : Network) → h ≡ filled (setOf s) homes .net → fileLength h ≤ length d → put d 0 (filledFile s homes h) ≡ laid (encode (filled (setOf s) homes)) d

@@ -1,20 +1,21 @@
-// The bytes of the set that is built, into the lent file: the graph's links, the homes, and the rows, filled by class from the homes.
-// The stores are the writer's: a byte past the file's end is stored nowhere, so no function here asks for room; `finish` sees to
-// it that there is.
-use housefile::byte;
-use housefile::end_a;
-use housefile::end_b;
-use housefile::home_records;
-use housefile::link_place;
-use housefile::link_weight;
-use housefile::row_place;
+// The file of a set, from a graph's file and the homes of its nodes: the graph's links, the homes, and rows that repeat topology 0's
+// weights on the links that the homes leave normal. `put_set` promises the lent file with exactly those bytes at its front. A byte past
+// the file's end is stored nowhere, so no function here asks for room; that there is room is for a verdict to say.
+use layout::end_a;
+use layout::end_b;
+use layout::link_place;
+use layout::link_weight;
+use layout::record;
+use layout::row_place;
 use rules::Network;
+use slices::byte;
+use slices::store::number;
 ghost use mathlib.Core.Path.{_≡_};
 ghost use Prim.Native.Nat.{_+_, _<_};
 ghost use Rattle.rules.specs.Basics.{flat};
 ghost use Rattle.rules.specs.Limits.{linkPlace, rowPlace};
-ghost use Rattle.writer.specs.Parts.{put};
-ghost use Rattle.builder.specs.Stores.{linkCopy, weightIn, filledBytes, filledRow, filledFile};
+ghost use Rattle.slices.specs.Stores.{put};
+ghost use Rattle.filling.specs.Filled.{linkCopy, weightIn, filledBytes, filledRow, filledFile};
 
 // The links, as in the graph.
 fn put_links(graph: &[u8], file: &mut [u8], m: u16)
@@ -25,7 +26,7 @@ fn put_links(graph: &[u8], file: &mut [u8], m: u16)
         let l = x as usize;
         let a = end_a(graph, l);
         let b = end_b(graph, l);
-        writer::store::link(file, link_place(l), a, b, link_weight(graph, l));
+        record::link(file, link_place(l), a, b, link_weight(graph, l));
         x += 1;
     }
 }
@@ -53,7 +54,7 @@ fn put_weights(graph: &[u8], homes: &[u8], file: &mut [u8], m: u16, at: usize, i
     while x < m {
         let l = x as usize;
         let w = weight_in(graph, homes, i, l);
-        writer::store::number(file, at + Network::WEIGHT * l, w);
+        number(file, at + Network::WEIGHT * l, w);
         x += 1;
     }
 }
@@ -65,7 +66,7 @@ fn put_row(graph: &[u8], homes: &[u8], file: &mut [u8], m: u16, at: usize, j: u8
     ensures { λ _. ⌜ now (file .exit) ≡ put (now (file .entry)) at (filledRow (now (graph .entry)) (now (homes .entry)) m j) ⌝ }
 {
     let i = j + 1;
-    writer::store::marked(file, at, 0x42, 0x57, i);
+    record::row_head(file, at, i);
     put_weights(graph, homes, file, m, at + Network::ROW_HEAD, i);
 }
 
@@ -84,8 +85,8 @@ fn put_rows(graph: &[u8], homes: &[u8], file: &mut [u8], net: Network, k: u8)
 pub fn put_set(graph: &[u8], homes: &[u8], file: &mut [u8], net: Network)
     ensures { λ _. ⌜ now (file .exit) ≡ put (now (file .entry)) 0 (filledFile (now (graph .entry)) (now (homes .entry)) net) ⌝ }
 {
-    writer::store::header(file, net);
+    record::header(file, net);
     put_links(graph, file, net.m);
-    writer::store::homes(file, net, homes, home_records(net));
+    record::homes(file, net, homes, net.home_records());
     put_rows(graph, homes, file, net, net.k);
 }

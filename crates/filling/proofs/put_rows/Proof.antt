@@ -1,11 +1,11 @@
 use Prim.Native.Nat.{_-_}
-use Rattle.builder.proofs.Stored.{rows-filled}
-use Rattle.builder.specs.Stores.{filledRow}
+use Rattle.filling.proofs.Stored.{rows-filled}
+use Rattle.filling.specs.Filled.{filledRow}
 use Rattle.rules.specs.Limits.{rowPlace}
-use Rattle.writer.proofs.Stores.{Storing, storing-done, storing-none}
+use Rattle.slices.proofs.Stores.{Storing, storing-done, storing-none}
 use borrow.Author.Needs.{needs}
-use Rattle.builder.proofs.store.put_rows.Statement.{statement}
-use Rattle.builder.proofs.store.put_rows.Tie as tie
+use Rattle.filling.proofs.put_rows.Statement.{statement}
+use Rattle.filling.proofs.put_rows.Tie as tie
 
 abbrev Inv-loop : tie.InvT-loop
 Inv-loop graph homes file₀ net k j₀ file j = Storing file₀ file (rowPlace net 0) (filledRow graph homes (net .m)) j k

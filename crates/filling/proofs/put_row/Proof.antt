@@ -1,13 +1,13 @@
-use Rattle.builder.proofs.Stored.{row-filled}
+use Rattle.filling.proofs.Stored.{row-filled}
 use borrow.Author.Needs.{needs}
-use Rattle.builder.proofs.store.put_row.Statement.{statement}
-use Rattle.builder.proofs.store.put_row.Tie as tie
+use Rattle.filling.proofs.put_row.Statement.{statement}
+use Rattle.filling.proofs.put_row.Tie as tie
 
 add-i : tie.Need-add-i
 add-i c = search needs
 
-marked-requires : tie.Need-marked-requires
-marked-requires c κs = search needs
+row-head-requires : tie.Need-row-head-requires
+row-head-requires c κs = search needs
 
 add-put-weights : tie.Need-add-put-weights
 add-put-weights c = search needs
@@ -24,4 +24,4 @@ returns c = search row-filled
 pub put-row-spec : {M : Type 1} → statement M
 put-row-spec =
     tie.close
-    (tie.spec add-i marked-requires add-put-weights put-weights-requires same-length returns)
+    (tie.spec add-i row-head-requires add-put-weights put-weights-requires same-length returns)
