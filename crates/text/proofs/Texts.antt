@@ -4,38 +4,26 @@ use mathlib.Core.List.{List, [], _∷_, _++_}
 use Prim.Native.Nat.{ℕ, zero, suc, _+_, _-_, _/_, _%_, _≤_, _<_}
 use native.Mathlib.Numerals.{add-one}
 use native.Mathlib.Omega.{arith}
-use lib.ListN.{length, getD, take, drop, set, length-append, length-set}
-use lib.Seq.{sets, set-out, sets-eq, take-suc, take-all}
+use lib.ListN.{length, getD, take, length-append}
+use lib.Seq.{take-suc, take-all}
 use Rattle.rules.specs.Basics.{laid}
 use Rattle.rules.specs.Report.{digits, decimal, space}
 use Rattle.rules.proofs.Fits.{digits-one, digits-more}
 use Rattle.rules.proofs.ChangeKinds.{letter-none, letter-t, letter-s, letter-d}
-use Rattle.report.specs.Text.{written, Wrote, field}
+use Rattle.slices.specs.Stores.{put}
+use Rattle.slices.proofs.Stores.{put-then, put-laid}
+use Rattle.text.specs.Text.{Wrote, field, numberRoom, fieldRoom, labelRoom, labelledRoom}
 
 -- ---- one after the other
 
-written-then : (text : List ℕ) (at : ℕ) (xs ys : List ℕ) → written (written text at xs) (at + length xs) ys ≡ written text at (xs ++ ys)
-unfolding written
-written-then text at [] ys = ap (λ (i : ℕ). sets text i ys) (omega arith)
-written-then text at (x ∷ xs) ys =
-    ap (λ (i : ℕ). sets (sets (set text at x) (suc at) xs) i ys) (omega arith) ∙ written-then (set text at x) (suc at) xs ys
-
 pub wrote-none : (text : List ℕ) (at most : ℕ) → Wrote text at [] most at text
-unfolding written
+unfolding put
 wrote-none text at most = record { is = refl; on = omega arith; few = omega arith; long = refl }
-
-pub wrote-in : (text : List ℕ) (at x : ℕ) → Wrote text at (x ∷ []) 1 (at + 1) (set text at x)
-unfolding written
-wrote-in text at x = record { is = refl; on = refl; few = omega arith; long = length-set text at x }
-
-pub wrote-out : (text : List ℕ) (at x : ℕ) → length text ≤ at → Wrote text at (x ∷ []) 1 (at + 1) text
-unfolding written
-wrote-out text at x h = record { is = sym (set-out text at x h); on = refl; few = omega arith; long = refl }
 
 pub wrote-then : (old mid new : List ℕ) (at p q a b most : ℕ) (xs ys : List ℕ) → Wrote old at xs a p mid → Wrote mid p ys b q new → a + b ≤ most → Wrote old at (xs ++ ys) most q new
 wrote-then old mid new at p q a b most xs ys v w h =
     record {
-      is = w .is ∙ ap (λ (t : List ℕ). written t p ys) (v .is) ∙ ap (λ (i : ℕ). written (written old at xs) i ys) (v .on) ∙ written-then old at xs ys;
+      is = put-then old mid new at p xs ys (v .is) (w .is) (v .on);
       on = omega (arith, v .on, w .on, length-append xs ys);
       few = omega (arith, v .few, w .few);
       long = w .long ∙ v .long;
@@ -47,10 +35,7 @@ wrote-as old new at r most xs ys e w = subst (λ (l : List ℕ). Wrote old at l 
 
 -- what fits a text from its first byte on is laid at its front
 pub wrote-laid : (old new bytes : List ℕ) (most r : ℕ) → Wrote old 0 bytes most r new → length bytes ≤ length old → new ≡ laid bytes old
-unfolding written laid
-wrote-laid old new bytes most r w h =
-    let z : 0 + length bytes ≡ length bytes = omega arith in
-    w .is ∙ sets-eq bytes old 0 (omega arith) ∙ ap (λ (i : ℕ). bytes ++ drop i old) z
+wrote-laid old new bytes most r w h = w .is ∙ put-laid bytes old h
 
 -- ---- a byte string
 
@@ -95,19 +80,20 @@ more-digits old mid new at p r (suc more) x d e ne l v w =
     (ap (λ (y : ℕ). digits more (x / 10) ++ (y ∷ [])) e ∙ sym (digits-more more x l))
     (wrote-then old mid new at p r (more + 1) 1 (suc more + 1) (digits more (x / 10)) (d ∷ []) v′ w (omega arith))
 
-pub number-of : (old new : List ℕ) (at r x : ℕ) → Wrote old at (digits 19 x) 20 r new → Wrote old at (decimal x) 20 r new
+pub number-of : (old new : List ℕ) (at r x : ℕ) → Wrote old at (digits 19 x) numberRoom r new → Wrote old at (decimal x) numberRoom r new
 unfolding decimal
 number-of old new at r x w = w
 
-pub labelled-of : (old mid new label : List ℕ) (at p r x : ℕ) → length label ≤ 16 → Wrote old at label (length label) p mid → Wrote mid p (decimal x) 20 r new → Wrote old at (label ++ decimal x) 36 r new
-labelled-of old mid new label at p r x h v w = wrote-then old mid new at p r (length label) 20 36 label (decimal x) v w (omega arith)
+pub labelled-of : (old mid new label : List ℕ) (at p r x : ℕ) → length label ≤ labelRoom → Wrote old at label (length label) p mid → Wrote mid p (decimal x) numberRoom r new
+    → Wrote old at (label ++ decimal x) labelledRoom r new
+labelled-of old mid new label at p r x h v w = wrote-then old mid new at p r (length label) numberRoom labelledRoom label (decimal x) v w (omega arith)
 
-pub field-of : (old mid new : List ℕ) (at p r x : ℕ) → Wrote old at (decimal x) 20 p mid → Wrote mid p (32 ∷ []) 1 r new → Wrote old at (field x) 21 r new
+pub field-of : (old mid new : List ℕ) (at p r x : ℕ) → Wrote old at (decimal x) numberRoom p mid → Wrote mid p (32 ∷ []) 1 r new → Wrote old at (field x) fieldRoom r new
 unfolding field
-field-of old mid new at p r x v w = wrote-then old mid new at p r 20 1 21 (decimal x) space v w (omega arith)
+field-of old mid new at p r x v w = wrote-then old mid new at p r numberRoom 1 fieldRoom (decimal x) space v w (omega arith)
 
 -- two results that the promise allows coincide: the place after the bytes, and every byte of the text
 pub one-writing : (old bytes new new′ : List ℕ) (at most r r′ : ℕ) → Wrote old at bytes most r new → Wrote old at bytes most r′ new′ → (r ≡ r′) × (new ≡ new′)
 one-writing old bytes new new′ at most r r′ v w = (v .on ∙ sym (w .on), v .is ∙ sym (w .is))
 
-pub ruleset texts = (wrote-in, wrote-out, copied-none, copied-more, copied-all, one-digit, last-digit, more-digits, number-of, labelled-of, field-of, letter-none, letter-t, letter-s, letter-d)
+pub ruleset texts = (copied-none, copied-more, copied-all, one-digit, last-digit, more-digits, number-of, labelled-of, field-of, letter-none, letter-t, letter-s, letter-d)

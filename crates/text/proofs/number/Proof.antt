@@ -1,7 +1,7 @@
 use borrow.Author.Needs.{needs}
-use Rattle.report.proofs.Texts.{texts}
-use Rattle.report.proofs.text.number.Statement.{statement}
-use Rattle.report.proofs.text.number.Tie as tie
+use Rattle.text.proofs.Texts.{texts}
+use Rattle.text.proofs.number.Statement.{statement}
+use Rattle.text.proofs.number.Tie as tie
 
 digits-requires : tie.Need-digits-requires
 digits-requires c κs = search needs

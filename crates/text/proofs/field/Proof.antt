@@ -1,7 +1,7 @@
 use borrow.Author.Needs.{needs}
-use Rattle.report.proofs.Texts.{texts}
-use Rattle.report.proofs.text.field.Statement.{statement}
-use Rattle.report.proofs.text.field.Tie as tie
+use Rattle.text.proofs.Texts.{texts}
+use Rattle.text.proofs.field.Statement.{statement}
+use Rattle.text.proofs.field.Tie as tie
 
 number-requires : tie.Need-number-requires
 number-requires c κs = search needs

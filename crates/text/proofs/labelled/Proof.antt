@@ -1,7 +1,7 @@
 use borrow.Author.Needs.{needs}
-use Rattle.report.proofs.Texts.{texts}
-use Rattle.report.proofs.text.labelled.Statement.{statement}
-use Rattle.report.proofs.text.labelled.Tie as tie
+use Rattle.text.proofs.Texts.{texts}
+use Rattle.text.proofs.labelled.Statement.{statement}
+use Rattle.text.proofs.labelled.Tie as tie
 
 copy-requires : tie.Need-copy-requires
 copy-requires c κs = search needs

@@ -1,10 +1,10 @@
 use Prim.Native.Nat.{_-_, _≤_}
-use Rattle.report.specs.Text.{Wrote}
+use Rattle.text.specs.Text.{Wrote}
 use borrow.Author.Needs.{needs}
 use lib.ListN.{length, take}
-use Rattle.report.proofs.Texts.{texts}
-use Rattle.report.proofs.text.copy.Statement.{statement}
-use Rattle.report.proofs.text.copy.Tie as tie
+use Rattle.text.proofs.Texts.{texts}
+use Rattle.text.proofs.copy.Statement.{statement}
+use Rattle.text.proofs.copy.Tie as tie
 
 abbrev Inv-loop : tie.InvT-loop
 Inv-loop text₀ start bytes long at₀ i₀ text at i = (i ≤ length bytes) × Wrote text₀ start (take i bytes) i at text

@@ -1,23 +1,21 @@
-// Text at a cursor: each function writes its bytes from `at` on and returns the place after them. A byte past the text's end is not
-// stored, so that no caller has to ask for room.
-use housefile::byte;
+// Text at a cursor: bytes, numbers in decimal, labels and letters. Each function promises that its bytes stand from `at` on, as far
+// as the text reaches, and returns the place after them. A byte past the text's end is not stored, so no caller has to ask for room.
 use rules::Kind;
+use slices::byte;
+use slices::store;
 ghost use mathlib.Core.Path.{_≡_};
 ghost use mathlib.Core.List.{[], _∷_, _++_};
 ghost use Prim.Native.Nat.{_+_, _≤_, _<_};
 ghost use lib.ListN.{length};
 ghost use Rattle.rules.specs.Report.{digits, decimal, letter};
-ghost use Rattle.report.specs.Text.{Wrote, field};
+ghost use Rattle.text.specs.Text.{Wrote, field, numberRoom, fieldRoom, labelRoom, labelledRoom};
 
 // One byte.
 pub fn put(text: &mut [u8], at: usize, x: u8) -> usize
     requires { ⌜ at < 4294967296 ⌝ }
     ensures { λ r. ⌜ Wrote (now (text .entry)) at (x ∷ []) 1 r (now (text .exit)) ⌝ }
 {
-    if text.len() <= at {
-        return at + 1;
-    }
-    text[at] = x;
+    store::byte(text, at, x);
     at + 1
 }
 
@@ -46,7 +44,7 @@ fn digit(x: usize) -> u8
 
 // The digits of x: the last `more` and one before them, at most.
 fn digits(text: &mut [u8], at: usize, x: usize, more: u8) -> usize
-    requires { ⌜ (at < 16777216) × (more < 20) ⌝ }
+    requires { ⌜ (at < 16777216) × (more < numberRoom) ⌝ }
     ensures { λ r. ⌜ Wrote (now (text .entry)) at (digits more x) (more + 1) r (now (text .exit)) ⌝ }
 {
     if more == 0 {
@@ -62,15 +60,15 @@ fn digits(text: &mut [u8], at: usize, x: usize, more: u8) -> usize
 // A number in decimal.
 pub fn number(text: &mut [u8], at: usize, x: usize) -> usize
     requires { ⌜ at < 16777216 ⌝ }
-    ensures { λ r. ⌜ Wrote (now (text .entry)) at (decimal x) 20 r (now (text .exit)) ⌝ }
+    ensures { λ r. ⌜ Wrote (now (text .entry)) at (decimal x) numberRoom r (now (text .exit)) ⌝ }
 {
     digits(text, at, x, 19)
 }
 
 // A number after its label.
 pub fn labelled(text: &mut [u8], at: usize, label: &[u8], x: usize) -> usize
-    requires { ⌜ (at < 8388608) × (length (now label) ≤ 16) ⌝ }
-    ensures { λ r. ⌜ Wrote (now (text .entry)) at (now (label .entry) ++ decimal x) 36 r (now (text .exit)) ⌝ }
+    requires { ⌜ (at < 8388608) × (length (now label) ≤ labelRoom) ⌝ }
+    ensures { λ r. ⌜ Wrote (now (text .entry)) at (now (label .entry) ++ decimal x) labelledRoom r (now (text .exit)) ⌝ }
 {
     let after = copy(text, at, label);
     number(text, after, x)
@@ -79,7 +77,7 @@ pub fn labelled(text: &mut [u8], at: usize, label: &[u8], x: usize) -> usize
 // A number and the space after it.
 pub fn field(text: &mut [u8], at: usize, x: u8) -> usize
     requires { ⌜ at < 8388608 ⌝ }
-    ensures { λ r. ⌜ Wrote (now (text .entry)) at (field x) 21 r (now (text .exit)) ⌝ }
+    ensures { λ r. ⌜ Wrote (now (text .entry)) at (field x) fieldRoom r (now (text .exit)) ⌝ }
 {
     let after = number(text, at, x as usize);
     put(text, after, b' ')

@@ -1,15 +1,15 @@
 use borrow.Author.Needs.{needs}
-use Rattle.report.proofs.Texts.{texts}
+use Rattle.text.proofs.Texts.{texts}
 use Prim.Native.Nat.{ℕ, _<_}
 use borrow.Fn.Kinds.{In}
 use borrow.Fn.PlainCycle.{Measures, is, falls, and}
-use Rattle.report.proofs.text.digits.Reads as digits
-use Rattle.report.proofs.text.digits.Kinds as digits-kinds
-use Rattle.report.proofs.text.+digits.Lts-digits as digits-lts
-use Rattle.report.proofs.text.digit.Reads as digit-reads
-use Rattle.report.proofs.text.put.Reads as put-reads
-use Rattle.report.proofs.text.+digits.{statement}
-use Rattle.report.proofs.text.+digits.Tie.{close}
+use Rattle.text.proofs.digits.Reads as digits
+use Rattle.text.proofs.digits.Kinds as digits-kinds
+use Rattle.text.proofs.+digits.Lts-digits as digits-lts
+use Rattle.text.proofs.digit.Reads as digit-reads
+use Rattle.text.proofs.put.Reads as put-reads
+use Rattle.text.proofs.+digits.{statement}
+use Rattle.text.proofs.+digits.Tie.{close}
 
 abbrev μ-digits : Measures 1 digits-kinds.ps ℕ
 μ-digits κs a = a .1 .1 .1 .0

@@ -1,7 +1,7 @@
 use borrow.Author.Needs.{needs}
-use Rattle.report.proofs.Texts.{texts}
-use Rattle.report.proofs.text.letter.Statement.{statement}
-use Rattle.report.proofs.text.letter.Tie as tie
+use Rattle.text.proofs.Texts.{texts}
+use Rattle.text.proofs.letter.Statement.{statement}
+use Rattle.text.proofs.letter.Tie as tie
 
 enum-told : tie.Need-enum-told
 enum-told c = search needs
