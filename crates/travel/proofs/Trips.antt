@@ -3,8 +3,7 @@ use mathlib.Core.Path.{_≡_, refl, sym, ap, ap₂, _∙_}
 use mathlib.Core.List.{List, [], _∷_, _++_, append-nil, append-assoc}
 use Prim.Native.Nat.{ℕ, zero, suc, _+_, _-_, _≤_, _<_}
 use native.Mathlib.Omega.{arith}
-use lib.ListN.{length, set, length-append, length-set}
-use lib.Seq.{set-out}
+use lib.ListN.{length, set, length-append}
 use Rattle.rules.specs.declared.Packet.{Packet}
 use Rattle.rules.specs.declared.Failure.{Failure}
 use Rattle.rules.specs.declared.Journey.{Journey}
@@ -17,8 +16,10 @@ use Rattle.rules.specs.declared.Outcome.the-variants as ended
 use Rattle.rules.specs.Basics.{laid}
 use Rattle.rules.specs.Forwarding.{Run, hops, trail, stop, firstKind, onward, afterStep, run}
 use Rattle.rules.proofs.Rows.{laid-more}
-use Rattle.forwarding.specs.Hop.{stepAt}
-use Rattle.forwarding.specs.Trip.{runAt, journeyOf, RunsAs, Begun, Visited}
+use Rattle.slices.specs.Stores.{put}
+use Rattle.slices.proofs.Stores.{length-put, put-inside}
+use Rattle.hop.specs.Hop.{stepAt}
+use Rattle.travel.specs.Trip.{runAt, journeyOf, RunsAs, Begun}
 
 -- ---- kinds
 
@@ -115,7 +116,7 @@ module _ (s tables : List ℕ) (f : Failure) where
       }
 
   pub travel-more : (start p q : Packet) (most count more : ℕ) (kind next k : Kind) (t₀ t t′ : List ℕ) (st : Step) → more ≡ count + 1 → Travelling start most t₀ p count kind t → st ≡ stepAt s tables f p → st ≡ Moved q next
-      → count < most → Begun start most t₀ → Visited t more (q .place) t′ → k ≡ firstKind kind next → Travelling start most t₀ q more k t′
+      → count < most → Begun start most t₀ → t′ ≡ put t more (q .place ∷ []) → k ≡ firstKind kind next → Travelling start most t₀ q more k t′
   unfolding onward
   travel-more start p q most count more kind next k t₀ t t′ st one T e d l B v z =
       let r = B .room in
@@ -127,9 +128,10 @@ module _ (s tables : List ℕ) (f : Failure) where
         visited = T .visited ++ (q .place ∷ []);
         counted = length-append (T .visited) (q .place ∷ []) ∙ ap (λ (x : ℕ). x + 1) (T .counted) ∙ sym one;
         written =
-            v .is ∙ ap₂ (λ (l : List ℕ) (x : ℕ). set l x (q .place)) (T .written) at
+            v ∙ ap₂ (λ (l : List ℕ) (x : ℕ). put l x (q .place ∷ [])) (T .written) at
+            ∙ sym (put-inside (laid (start .place ∷ T .visited) t₀) (length (start .place ∷ T .visited)) (q .place))
             ∙ laid-more (start .place ∷ T .visited) t₀ (q .place) (omega arith);
-        long = v .long ∙ T .long;
+        long = ap length v ∙ length-put t more (q .place ∷ []) ∙ T .long;
         outcome = T .outcome ∙ ap (λ (x : Run). x .outcome) R;
         nodes = T .nodes ∙ ap (λ (x : Run). T .visited ++ x .visited) R ∙ sym (append-assoc (T .visited) (q .place ∷ []) (runAt s tables f (most - more) q .visited));
         topology = T .topology ∙ ap (λ (x : Run). x .topology) R;
@@ -170,24 +172,22 @@ module _ (s tables : List ℕ) (f : Failure) where
 
   -- ---- from a trail as it came
 
-  pub begun : (start : Packet) (most : ℕ) (old t : List ℕ) → Visited old 0 (start .place) t → most < length old → Begun start most t
-  begun start most old t v l = record { first = rw (v .is) (laid-first old (start .place) (omega arith)); room = omega (arith, v .long) }
+  pub begun : (start : Packet) (most : ℕ) (old t : List ℕ) → t ≡ put old 0 (start .place ∷ []) → most < length old → Begun start most t
+  begun start most old t v l =
+      let e : t ≡ set old 0 (start .place) = v ∙ sym (put-inside old 0 (start .place)) in
+      record { first = rw e (laid-first old (start .place) (omega arith)); room = omega (arith, ap length v, length-put old 0 (start .place ∷ [])) }
 
-  pub runs-whole : (start : Packet) (most : ℕ) (old t t′ : List ℕ) (j : Journey) → Visited old 0 (start .place) t → RunsAs s tables f start most t j t′ → RunsAs s tables f start most old j t′
+  pub runs-whole : (start : Packet) (most : ℕ) (old t t′ : List ℕ) (j : Journey) → t ≡ put old 0 (start .place ∷ []) → RunsAs s tables f start most t j t′ → RunsAs s tables f start most old j t′
   unfolding trail
   runs-whole start most old t t′ j v R =
       record {
         answer = R .answer;
-        written = R .written ∙ ap (laid (start .place ∷ runAt s tables f most start .visited)) (v .is) ∙ laid-over (start .place) (start .place) (runAt s tables f most start .visited) old;
+        written =
+            R .written ∙ ap (laid (start .place ∷ runAt s tables f most start .visited)) (v ∙ sym (put-inside old 0 (start .place)))
+            ∙ laid-over (start .place) (start .place) (runAt s tables f most start .visited) old;
       }
 
--- ---- one node more
-
-pub visited-in : (t : List ℕ) (at v : ℕ) → Visited t at v (set t at v)
-visited-in t at v = record { is = refl; long = length-set t at v }
-
-pub visited-out : (t : List ℕ) (at v : ℕ) → length t ≤ at → Visited t at v t
-visited-out t at v l = record { is = sym (set-out t at v l); long = refl }
+-- ---- the hops that are left
 
 pub fewer-left : (count more most : ℕ) → more ≡ count + 1 → count < most → most - more < most - count
 fewer-left count more most e l = omega arith
@@ -197,4 +197,4 @@ pub one-run : (s tables : List ℕ) (f : Failure) (start : Packet) (most : ℕ) 
     → RunsAs s tables f start most old r new → RunsAs s tables f start most old r′ new′ → (r ≡ r′) × (new ≡ new′)
 one-run s tables f start most old new new′ r r′ p q = (p .answer ∙ sym (q .answer), p .written ∙ sym (q .written))
 
-pub ruleset travelling = (kind-first, kind-t, kind-s, kind-d, travel-none, travel-more, travel-delivered, travel-dropped, travel-under-way, begun, runs-whole, fewer-left, visited-in, visited-out)
+pub ruleset travelling = (kind-first, kind-t, kind-s, kind-d, travel-none, travel-more, travel-delivered, travel-dropped, travel-under-way, begun, runs-whole, fewer-left)

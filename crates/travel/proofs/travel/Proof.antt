@@ -1,7 +1,7 @@
-use Rattle.forwarding.proofs.Trips.{travelling}
+use Rattle.travel.proofs.Trips.{travelling}
 use borrow.Author.Needs.{needs}
-use Rattle.forwarding.proofs.travel.travel.Statement.{statement}
-use Rattle.forwarding.proofs.travel.travel.Tie as tie
+use Rattle.travel.proofs.travel.Statement.{statement}
+use Rattle.travel.proofs.travel.Tie as tie
 
 visit-requires : tie.Need-visit-requires
 visit-requires c κs = search needs

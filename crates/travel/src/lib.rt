@@ -1,5 +1,7 @@
-// A packet's run to its end by tables that are lent: step after step, each node visited written into the trail.
-use crate::hop::take;
+// A packet's run to its end by tables that are lent, as they are: step after step, each node visited written into the trail. `travel`
+// promises the run that the rules make under this failure, of at most so many hops: its outcome, hops, last topology and the kind of
+// its change, and every byte of the trail.
+use hop::take;
 use rules::Failure;
 use rules::Journey;
 use rules::Kind;
@@ -7,12 +9,15 @@ use rules::Network;
 use rules::Outcome;
 use rules::Packet;
 use rules::Step;
+use slices::store;
 ghost use mathlib.Core.Path.{_≡_};
+ghost use mathlib.Core.List.{[], _∷_};
 ghost use Prim.Native.Nat.{_+_, _<_};
 ghost use lib.ListN.{length};
 ghost use Rattle.rules.specs.Forwarding.{firstKind};
-ghost use Rattle.forwarding.specs.Hop.{Judged};
-ghost use Rattle.forwarding.specs.Trip.{RunsAs, Begun, Visited};
+ghost use Rattle.slices.specs.Stores.{put};
+ghost use Rattle.hop.specs.Hop.{Judged};
+ghost use Rattle.travel.specs.Trip.{RunsAs, Begun};
 
 // The kind of the first change: the one there was, or else this hop's.
 fn first_kind(kind: Kind, next: Kind) -> Kind
@@ -28,12 +33,9 @@ fn first_kind(kind: Kind, next: Kind) -> Kind
 
 // Node v is written into the trail, where there is room.
 fn visit(trail: &mut [u8], hops: u8, v: u8)
-    ensures { λ _. ⌜ Visited (now (trail .entry)) hops v (now (trail .exit)) ⌝ }
+    ensures { λ _. ⌜ now (trail .exit) ≡ put (now (trail .entry)) hops (v ∷ []) ⌝ }
 {
-    let at = hops as usize;
-    if at < trail.len() {
-        trail[at] = v;
-    }
+    store::byte(trail, hops as usize, v);
 }
 
 fn one_more(hops: u8, most: u8) -> u8

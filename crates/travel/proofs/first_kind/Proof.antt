@@ -1,7 +1,7 @@
-use Rattle.forwarding.proofs.Trips.{travelling}
+use Rattle.travel.proofs.Trips.{travelling}
 use borrow.Author.Needs.{needs}
-use Rattle.forwarding.proofs.travel.first_kind.Statement.{statement}
-use Rattle.forwarding.proofs.travel.first_kind.Tie as tie
+use Rattle.travel.proofs.first_kind.Statement.{statement}
+use Rattle.travel.proofs.first_kind.Tie as tie
 
 enum-told : tie.Need-enum-told
 enum-told c = search needs

@@ -1,9 +1,9 @@
 use borrow.Author.Needs.{needs}
 use Rattle.rules.specs.Forwarding.{hops, trail}
 use Prim.Native.Nat.{_-_}
-use Rattle.forwarding.proofs.Trips.{Travelling, travelling}
-use Rattle.forwarding.proofs.travel.go_on.Statement.{statement}
-use Rattle.forwarding.proofs.travel.go_on.Tie as tie
+use Rattle.travel.proofs.Trips.{Travelling, travelling}
+use Rattle.travel.proofs.go_on.Statement.{statement}
+use Rattle.travel.proofs.go_on.Tie as tie
 
 abbrev Inv-loop : tie.InvT-loop
 Inv-loop file net tables failure most trail₀ p₀ hops₀ kind₀ trail p hops kind = Travelling file tables failure p₀ most trail₀ p hops kind trail
