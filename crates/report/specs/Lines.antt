@@ -18,37 +18,6 @@ use Rattle.forwarding.specs.Trip.{runAt}
 use Rattle.report.specs.Text.{field}
 use Rattle.report.specs.declared.seen.Seen.{Seen}
 
--- an accepted file s, its header, and its own tables
-pub record Ready (s : List ℕ) (net : Network) (tables : List ℕ) : Type 0 where
-  pub accepted : check s ≡ Accepted
-  pub header : net ≡ headerOf s
-  pub before : List ℕ
-  pub made : tables ≡ laid (tableBytes (setOf s)) before
-  pub least : 3 ≤ net .n
-  pub most : net .n ≤ 32
-
--- a node and a destination of the file
-pub record Pair (net : Network) (u t : ℕ) : Type 0 where
-  pub node : u < net .n
-  pub end : t < net .n
-
--- the hops of the run from p by these tables, of at most so many
-pub record Counted (s tables : List ℕ) (f : Failure) (p : Packet) (most r : ℕ) : Type 0 where
-  pub is : r ≡ hops (runAt s tables f most p)
-  pub few : r ≤ most
-
--- what node u sees of a packet for t where the link to its next hop is down
-unfoldable pub seenBy : Set → ℕ → ℕ → Seen
-seenBy S u t =
-    record {
-      via = nextHop S 0 u t;
-      kind = kindOf (detection S u t);
-      topology = packetOf (detection S u t) .topology;
-      next = packetOf (detection S u t) .place;
-      hops = backupHops S u t;
-      extra = extraHops S u t;
-    }
-
 -- ---- a line in three parts
 
 unfoldable pub headOf : ℕ → ℕ → ℕ → List ℕ

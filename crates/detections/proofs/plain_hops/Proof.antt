@@ -1,14 +1,14 @@
-use Rattle.rules.specs.Limits.{mostHops}
+use Rattle.rules.specs.Limits.{mostHops, trailRoom, longest}
 use borrow.Author.Needs.{needs}
-use Rattle.report.proofs.Seens.{seens}
-use Rattle.report.proofs.seen.plain_hops.Statement.{statement}
-use Rattle.report.proofs.seen.plain_hops.Tie as tie
+use Rattle.detections.proofs.Seens.{seens}
+use Rattle.detections.proofs.plain_hops.Statement.{statement}
+use Rattle.detections.proofs.plain_hops.Tie as tie
 
 most-hops-requires : tie.Need-most-hops-requires
 most-hops-requires c κs = search needs
 
 hops-from-requires : tie.Need-hops-from-requires
-unfolding mostHops
+unfolding mostHops trailRoom longest
 hops-from-requires c κs = search needs
 
 returns : tie.Need-returns

@@ -1,7 +1,7 @@
 use borrow.Author.Needs.{needs}
-use Rattle.report.proofs.Seens.{seens}
-use Rattle.report.proofs.seen.detect.Statement.{statement}
-use Rattle.report.proofs.seen.detect.Tie as tie
+use Rattle.detections.proofs.Seens.{seens}
+use Rattle.detections.proofs.detect.Statement.{statement}
+use Rattle.detections.proofs.detect.Tie as tie
 
 next-hop-requires : tie.Need-next-hop-requires
 next-hop-requires c κs = search needs

@@ -1,8 +1,8 @@
-use Rattle.rules.specs.Limits.{mostHops}
+use Rattle.rules.specs.Limits.{mostHops, trailRoom, longest}
 use borrow.Author.Needs.{needs}
-use Rattle.report.proofs.Seens.{seens}
-use Rattle.report.proofs.seen.hops_after.Statement.{statement}
-use Rattle.report.proofs.seen.hops_after.Tie as tie
+use Rattle.detections.proofs.Seens.{seens}
+use Rattle.detections.proofs.hops_after.Statement.{statement}
+use Rattle.detections.proofs.hops_after.Tie as tie
 
 enum-told : tie.Need-enum-told
 enum-told c = search needs
@@ -21,7 +21,7 @@ unfolding mostHops
 sub-hops-from c = search needs
 
 hops-from-requires : tie.Need-hops-from-requires
-unfolding mostHops
+unfolding mostHops trailRoom longest
 hops-from-requires c κs = search needs
 
 add-result : tie.Need-add-result

@@ -1,7 +1,7 @@
 use borrow.Author.Needs.{needs}
-use Rattle.report.proofs.Seens.{seens}
-use Rattle.report.proofs.seen.kind_of.Statement.{statement}
-use Rattle.report.proofs.seen.kind_of.Tie as tie
+use Rattle.detections.proofs.Seens.{seens}
+use Rattle.detections.proofs.kind_of.Statement.{statement}
+use Rattle.detections.proofs.kind_of.Tie as tie
 
 enum-told : tie.Need-enum-told
 enum-told c = search needs

@@ -1,25 +1,24 @@
 // What a detecting node sees: its next hop in topology 0, what it does where the link to it is down, and the hops from there on.
-// `tables` are the file's own.
-use forwarding::hop::link_between;
-use forwarding::hop::take;
-use forwarding::travel::travel;
-use housefile::byte;
-use needs::most_hops;
-use needs::times;
+// `detect` promises all that the report's line on a node and a destination holds, of an accepted file by its own tables.
+use hop::link_between;
+use hop::take;
 use rules::Failure;
 use rules::Kind;
 use rules::Network;
 use rules::Packet;
 use rules::Step;
+use slices::byte;
+use travel::travel;
 ghost use mathlib.Core.Path.{_≡_};
 ghost use Prim.Native.Nat.{_-_, _<_};
-ghost use lib.ListN.{length, getD};
+ghost use lib.ListN.{getD};
 ghost use Rattle.rules.specs.File.{setOf};
 ghost use Rattle.rules.specs.declared.Failure.the-variants.{Nothing};
+ghost use Rattle.rules.specs.Limits.{longest};
 ghost use Rattle.rules.specs.Forwarding.{faultOf, entryPlace, packet, hops};
 ghost use Rattle.rules.specs.Report.{kindOf, packetOf, runUnder};
-ghost use Rattle.forwarding.specs.Hop.{stepAt};
-ghost use Rattle.report.specs.Lines.{Ready, Pair, Counted, seenBy};
+ghost use Rattle.hop.specs.Hop.{stepAt};
+ghost use Rattle.detections.specs.Detection.{Ready, Pair, Counted, seenBy};
 
 // The fields of a line after its node and destination.
 pub struct Seen {
@@ -35,8 +34,7 @@ pub struct Seen {
 fn next_hop(tables: &[u8], net: Network, u: u8, t: u8) -> u8
     ensures { λ r. ⌜ r ≡ getD (now (tables .entry)) (entryPlace net 0 u t) 0 ⌝ }
 {
-    let row = times(u as usize, net.n as usize);
-    byte(tables, row + (t as usize))
+    byte(tables, net.entry_place(0, u, t))
 }
 
 // The kind of a step's change.
@@ -61,20 +59,13 @@ fn packet_of(s: Step) -> Packet
     }
 }
 
-// Room for the longest trail.
-fn trail_room() -> [u8; Network::LONGEST_TRAIL]
-    ensures { λ r. ⌜ length r ≡ 62 ⌝ }
-{
-    [0; Network::LONGEST_TRAIL]
-}
-
 // How many hops a packet makes by the tables under this failure, of at most so many.
 fn hops_from(file: &[u8], net: Network, tables: &[u8], failure: Failure, p: Packet, most: u8) -> u8
     requires { ⌜ Ready (now file) net (now tables) ⌝ }
-    requires { ⌜ most < 62 ⌝ }
+    requires { ⌜ most < longest .trail ⌝ }
     ensures { λ r. ⌜ Counted (now (file .entry)) (now (tables .entry)) failure p most r ⌝ }
 {
-    let mut trail = trail_room();
+    let mut trail = rooms::trail();
     let j = travel(file, net, tables, failure, p, most, &mut trail);
     j.hops
 }
@@ -90,7 +81,7 @@ fn plain_hops(file: &[u8], net: Network, tables: &[u8], u: u8, t: u8) -> u8
         destination: t,
         topology: 0,
     };
-    let most = most_hops(net);
+    let most = net.most_hops();
     hops_from(file, net, tables, Failure::Nothing, start, most)
 }
 
@@ -113,7 +104,7 @@ fn hops_after(
         Step::Delivered(_) => 0,
         Step::Dropped(_) => 0,
         Step::Moved(p, _) => {
-            let most = most_hops(net);
+            let most = net.most_hops();
             let rest = hops_from(file, net, tables, failure, p, most - 1);
             rest + 1
         }

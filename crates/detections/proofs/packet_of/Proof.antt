@@ -1,7 +1,7 @@
 use borrow.Author.Needs.{needs}
-use Rattle.report.proofs.Seens.{seens}
-use Rattle.report.proofs.seen.packet_of.Statement.{statement}
-use Rattle.report.proofs.seen.packet_of.Tie as tie
+use Rattle.detections.proofs.Seens.{seens}
+use Rattle.detections.proofs.packet_of.Statement.{statement}
+use Rattle.detections.proofs.packet_of.Tie as tie
 
 enum-known-s : tie.Need-enum-known-s
 enum-known-s c = search needs

@@ -2,8 +2,7 @@
 use mathlib.Core.Path.{_≡_, sym, ap, ap₂, subst, _∙_}
 use mathlib.Core.Bool.{Bool}
 use mathlib.Core.List.{List}
-use Prim.Native.Nat.{ℕ, zero, suc, _+_, _-_, _*_, _≤_, _<_}
-use native.Mathlib.Nat.{zero-mul, zero-add}
+use Prim.Native.Nat.{ℕ, zero, suc, _+_, _-_, _≤_, _<_}
 use native.Mathlib.Omega.{arith}
 use lib.ListN.{getD}
 use Rattle.rules.specs.declared.Network.{Network}
@@ -26,10 +25,10 @@ use Rattle.rules.proofs.Held.{net-held}
 use Rattle.rules.proofs.Checked.{checked-file, checked-set}
 use Rattle.rules.proofs.Runs.{starts}
 use Rattle.rules.proofs.Lent.{Agree, lent-agree, step-same, run-same}
-use Rattle.forwarding.specs.Hop.{Judged, on, tablesAt, stepAt}
-use Rattle.forwarding.specs.Trip.{runAt, journeyOf, RunsAs}
-use Rattle.forwarding.proofs.Trips.{run-delivered, run-dropped, run-moved}
-use Rattle.report.specs.Lines.{Ready, Pair, Counted, seenBy}
+use Rattle.hop.specs.Hop.{Judged, on, tablesAt, stepAt}
+use Rattle.travel.specs.Trip.{runAt, journeyOf, RunsAs}
+use Rattle.travel.proofs.Trips.{run-delivered, run-dropped, run-moved}
+use Rattle.detections.specs.Detection.{Ready, Pair, Counted, seenBy}
 
 -- ---- the parts of a step
 
@@ -57,14 +56,10 @@ pub packet-dropped : (s : Step) (p : Packet) → s ≡ Dropped p → p ≡ packe
 unfolding packetOf
 packet-dropped s p e = rw e
 
--- ---- the next hop in topology 0 stands in the first table
+-- ---- the next hop in topology 0
 
-pub first-table : (tables : List ℕ) (net : Network) (u t row x : ℕ) → row ≡ u * net .n → x ≡ getD tables (row + t) 0 → x ≡ getD tables (entryPlace net 0 u t) 0
-unfolding entryPlace
-first-table tables net u t row x e d = d ∙ ap (λ (r : ℕ). getD tables (r + t) 0) e ∙ ap (λ (i : ℕ). getD tables i 0) (sym z)
-  where
-    z : 0 * (net .n * net .n) + (u * net .n + t) ≡ u * net .n + t
-    z = rw (zero-mul, zero-add)
+pub first-table : (tables : List ℕ) (net : Network) (u t place x : ℕ) → place ≡ entryPlace net 0 u t → x ≡ getD tables place 0 → x ≡ getD tables (entryPlace net 0 u t) 0
+first-table tables net u t place x e d = d ∙ ap (λ (i : ℕ). getD tables i 0) e
 
 -- ---- the hops of a run
 
