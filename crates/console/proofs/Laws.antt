@@ -12,7 +12,6 @@ use Rattle.rules.proofs.Choices.{and-of, and-left, and-right, if-yes, if-no, fa
 use Rattle.console.specs.declared.number.Number.{Number}
 use Rattle.console.specs.declared.number.Number.the-variants.{Given, Unclear}
 use Rattle.console.specs.Numbers.{more, valueOf, numberBy, numberIn}
-use Rattle.console.specs.Rooms.{Room}
 
 -- ---- one more digit
 
@@ -81,11 +80,5 @@ module _ (s : List ℕ) where
   in-given i n v r e h l g d q =
       q ∙ ap numberBy (d ∙ ap (valueOf s) (omega arith))
       ∙ sym (if-no (eqb (length s) 0) Unclear (numberBy (valueOf s (length s))) (ne-eqb (length s) 0 (λ z. h (omega arith))))
-
--- ---- room
-
--- two results that the promise allows coincide: every byte of the room
-pub one-room : (n : ℕ) (r r′ : List ℕ) → Room n r → Room n r′ → r ≡ r′
-one-room n r r′ p q = p .empty ∙ sym (q .empty)
 
 pub ruleset numbers = (more-full, more-low, more-high, more-over, more-next, by-none, by-given, value-none, value-more, in-none, in-given)

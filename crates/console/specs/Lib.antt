@@ -1,3 +1,2 @@
 -- Room, and what digits mean.
-pub mod Rooms
 pub mod Numbers

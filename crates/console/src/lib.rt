@@ -1,18 +1,9 @@
-// What the programs share: room for a file, a number among the arguments, and the line of a refusal. The room is promised whole,
-// and so is what a text means as a number. What is read from the arguments, and what is written, no contract can say.
+// What the programs share: a number among the arguments, and the line of a refusal. What a text means as a number is promised whole.
+// What is read from the arguments, and what is written, no contract can say.
 mod number; // number.rt: what digits mean
 
 pub use number::Number;
 pub use number::number_in;
-use rules::Network;
-ghost use Rattle.console.specs.Rooms.{Room};
-
-// Room for one byte more than the longest file, so that a longer one is refused.
-pub fn file_room() -> [u8; Network::LONGEST_FILE + 1]
-    ensures { λ r. ⌜ Room 9193 r ⌝ }
-{
-    [0; Network::LONGEST_FILE + 1]
-}
 
 // Argument i as a number; one that is missing, or too long for its room, is none. The program's own name is argument 0.
 pub fn argument(i: usize) -> Number {

@@ -1,5 +1,5 @@
 // A text as a decimal number from 0 to 255.
-use housefile::byte;
+use slices::byte;
 ghost use mathlib.Core.Path.{_≡_};
 ghost use Rattle.console.specs.Numbers.{more, numberBy, numberIn};
 

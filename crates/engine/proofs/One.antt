@@ -14,7 +14,8 @@ use Rattle.rules.specs.Limits.{restrictedWeight, homeRecords}
 use Rattle.rules.specs.File.{Set}
 use Rattle.rules.specs.Isolation.{home}
 use Rattle.rules.specs.Demands.{AcceptedSet}
-use Rattle.rules.specs.Entries.{lists, setWith}
+use Rattle.rules.specs.Entries.{setWith}
+use Rattle.routes.specs.Listed.{listed}
 use Rattle.routes.specs.Lanes.{LowRows}
 use Rattle.routes.specs.Passes.{netOf, Wired, settled}
 use Rattle.routes.specs.Costs.{cost, rowOf, costAt, Links, Distances}
@@ -26,17 +27,9 @@ use Rattle.hops.proofs.NextHops.{tie-table}
 use Rattle.hops.proofs.Detours.{alternate-of}
 use Rattle.engine.specs.Stages.{hopTable, Ready, AlternatesBelow, Work, Added}
 
--- ---- `product`, `restricted_weight`
-pub product-fits : (x y : ℕ) → (x ≤ 256) × (y < 65536) → Fits w32 (x * y)
-product-fits x y h = let q : y ≤ 65536 = omega (arith, h .1) in record { fits = omega (arith, mul-le-mul (h .0) q) }
-
-pub weight-is : (net : Network) (m wmax r : ℕ) → m ≡ net .m → wmax ≡ net .wmax → r ≡ 2 * m * wmax → r ≡ restrictedWeight net
-unfolding restrictedWeight
-weight-is net m wmax r em ew e = e ∙ rw (em, ew)
-
-module _ (net : Network) (a b weights homes rows : List ℕ) (A : AcceptedSet (setWith net (lists a b weights homes rows))) where
+module _ (net : Network) (a b weights homes rows : List ℕ) (A : AcceptedSet (listed net a b weights homes rows)) where
   abbrev S : Set
-  S = setWith net (lists a b weights homes rows)
+  S = listed net a b weights homes rows
 
   -- ---- `costs`
   pub few-links : net .m ≤ 128

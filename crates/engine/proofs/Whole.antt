@@ -15,7 +15,8 @@ use Rattle.rules.specs.Limits.{tablesLength}
 use Rattle.rules.specs.File.{Set}
 use Rattle.rules.specs.Distance.{nextHop, alternate, tableBytes}
 use Rattle.rules.specs.Demands.{AcceptedSet}
-use Rattle.rules.specs.Entries.{lists, setWith}
+use Rattle.rules.specs.Entries.{setWith}
+use Rattle.routes.specs.Listed.{listed}
 use Rattle.rules.proofs.Rows.{length-upTo, length-flat, upTo-ext, flat-ext}
 use Rattle.rules.proofs.Homes.{home-high}
 use Rattle.routes.proofs.Filling.{fill-more, fill-done, rows-more, rows-done, at-none, at-more, part-long}
@@ -24,9 +25,9 @@ use Rattle.engine.specs.Stages.{hopTable, entry, entriesOf, AlternatesBe
 plus-minus : (p m : ℕ) → p + m - p ≡ m
 plus-minus p m = omega arith
 
-module _ (net : Network) (a b weights homes rows : List ℕ) (A : AcceptedSet (setWith net (lists a b weights homes rows))) where
+module _ (net : Network) (a b weights homes rows : List ℕ) (A : AcceptedSet (listed net a b weights homes rows)) where
   abbrev S : Set
-  S = setWith net (lists a b weights homes rows)
+  S = listed net a b weights homes rows
 
   -- ---- `topology_at`
   square-few : net .n * net .n ≤ 32 * 32

@@ -6,29 +6,13 @@ ghost use mathlib.Core.Path.{_≡_};
 ghost use Prim.Native.Nat.{_+_, _*_, _≤_, _<_};
 ghost use lib.ListN.{length};
 ghost use Rattle.rules.specs.Basics.{upTo, flat};
-ghost use Rattle.rules.specs.Limits.{restrictedWeight, tablesLength};
+ghost use Rattle.rules.specs.Limits.{tablesLength};
 ghost use Rattle.rules.specs.Distance.{tableBytes};
 ghost use Rattle.rules.specs.Demands.{AcceptedSet};
-ghost use Rattle.rules.specs.Entries.{lists, setWith};
+ghost use Rattle.rules.specs.Entries.{lists};
+ghost use Rattle.routes.specs.Listed.{listed};
 ghost use Rattle.routes.specs.Costs.{cost};
 ghost use Rattle.engine.specs.Stages.{entriesOf, Ready, AlternatesBelow, Work, Added, AddedAt, AllAdded, Roomy, entry};
-
-fn product(x: u32, y: u32) -> u32
-    requires { ⌜ (x ≤ 256) × (y < 65536) ⌝ }
-    ensures { λ r. ⌜ r ≡ x * y ⌝ }
-{
-    x * y
-}
-
-// 2 × m × wmax.
-fn restricted_weight(net: Network) -> u32
-    requires { ⌜ net .m ≤ 128 ⌝ }
-    ensures { λ r. ⌜ r ≡ restrictedWeight net ⌝ }
-{
-    let m = net.m as u32;
-    let wmax = net.wmax as u32;
-    product(2 * m, wmax)
-}
 
 // The cost of every link in topology i.
 fn costs<'a>(
@@ -41,13 +25,13 @@ fn costs<'a>(
     i: u8,
     c: &mut [u32],
 )
-    requires { ⌜ AcceptedSet (setWith net (lists (now a) (now b) (now weights) (now homes) (now rows))) ⌝ }
+    requires { ⌜ AcceptedSet (listed net (now a) (now b) (now weights) (now homes) (now rows)) ⌝ }
     requires { ⌜ (i ≤ net .k) × (length (now c) ≡ net .m) ⌝ }
-    ensures { λ _. ⌜ now (c .exit) ≡ upTo (cost (setWith net (lists (now (a .entry)) (now (b .entry)) (now (weights .entry)) (now (homes .entry)) (now (rows .entry)))) i) (net .m) ⌝ }
+    ensures { λ _. ⌜ now (c .exit) ≡ upTo (cost (listed net (now (a .entry)) (now (b .entry)) (now (weights .entry)) (now (homes .entry)) (now (rows .entry))) i) (net .m) ⌝ }
 {
     let m = net.m as usize;
     let row = routes::row_in_force(weights, rows, m, i as usize);
-    let r = restricted_weight(net);
+    let r = net.restricted_weight();
     routes::fill_costs(a, b, homes, row, i, r, c);
 }
 
@@ -63,9 +47,9 @@ fn measure<'a>(
     c: &mut [u32],
     d: &mut [[u32; Network::LANES]],
 )
-    requires { ⌜ AcceptedSet (setWith net (lists (now a) (now b) (now weights) (now homes) (now rows))) ⌝ }
+    requires { ⌜ AcceptedSet (listed net (now a) (now b) (now weights) (now homes) (now rows)) ⌝ }
     requires { ⌜ (i ≤ net .k) × (length (now c) ≡ net .m) × (length (now d) ≡ net .n) ⌝ }
-    ensures { λ _. ⌜ Ready (setWith net (lists (now (a .entry)) (now (b .entry)) (now (weights .entry)) (now (homes .entry)) (now (rows .entry)))) i (now (c .exit)) (now (d .exit)) ⌝ }
+    ensures { λ _. ⌜ Ready (listed net (now (a .entry)) (now (b .entry)) (now (weights .entry)) (now (homes .entry)) (now (rows .entry))) i (now (c .exit)) (now (d .exit)) ⌝ }
 {
     costs(net, a, b, weights, homes, rows, i, c);
     routes::distances(a, b, c, d);
@@ -86,11 +70,11 @@ fn topology<'a>(
     alts: &mut [[u8; Network::MOST_NODES]],
     out: &mut [u8],
 )
-    requires { ⌜ AcceptedSet (setWith net (lists (now a) (now b) (now weights) (now homes) (now rows))) ⌝ }
-    requires { ⌜ Work (setWith net (lists (now a) (now b) (now weights) (now homes) (now rows))) (now c) (now d) (now w) ⌝ }
-    requires { ⌜ AlternatesBelow (setWith net (lists (now a) (now b) (now weights) (now homes) (now rows))) i (now alts) ⌝ }
+    requires { ⌜ AcceptedSet (listed net (now a) (now b) (now weights) (now homes) (now rows)) ⌝ }
+    requires { ⌜ Work (listed net (now a) (now b) (now weights) (now homes) (now rows)) (now c) (now d) (now w) ⌝ }
+    requires { ⌜ AlternatesBelow (listed net (now a) (now b) (now weights) (now homes) (now rows)) i (now alts) ⌝ }
     requires { ⌜ (i ≤ net .k) × (length (now out) ≡ net .n * net .n) ⌝ }
-    ensures { λ _. ⌜ Added (setWith net (lists (now (a .entry)) (now (b .entry)) (now (weights .entry)) (now (homes .entry)) (now (rows .entry)))) i (now (out .exit)) (now (alts .exit)) ⌝ }
+    ensures { λ _. ⌜ Added (listed net (now (a .entry)) (now (b .entry)) (now (weights .entry)) (now (homes .entry)) (now (rows .entry))) i (now (out .exit)) (now (alts .exit)) ⌝ }
 {
     measure(net, a, b, weights, homes, rows, i, c, d);
     hops::hop_table(a, b, c, d, w, out);
@@ -113,11 +97,11 @@ fn topology_at<'a>(
     out: &mut [u8],
     at: usize,
 )
-    requires { ⌜ AcceptedSet (setWith net (lists (now a) (now b) (now weights) (now homes) (now rows))) ⌝ }
-    requires { ⌜ Work (setWith net (lists (now a) (now b) (now weights) (now homes) (now rows))) (now c) (now d) (now w) ⌝ }
-    requires { ⌜ AlternatesBelow (setWith net (lists (now a) (now b) (now weights) (now homes) (now rows))) i (now alts) ⌝ }
+    requires { ⌜ AcceptedSet (listed net (now a) (now b) (now weights) (now homes) (now rows)) ⌝ }
+    requires { ⌜ Work (listed net (now a) (now b) (now weights) (now homes) (now rows)) (now c) (now d) (now w) ⌝ }
+    requires { ⌜ AlternatesBelow (listed net (now a) (now b) (now weights) (now homes) (now rows)) i (now alts) ⌝ }
     requires { ⌜ (i ≤ net .k) × (at + net .n * net .n ≤ length (now out)) ⌝ }
-    ensures { λ _. ⌜ AddedAt (setWith net (lists (now (a .entry)) (now (b .entry)) (now (weights .entry)) (now (homes .entry)) (now (rows .entry)))) i at (now (out .entry)) (now (out .exit)) (now (alts .exit)) ⌝ }
+    ensures { λ _. ⌜ AddedAt (listed net (now (a .entry)) (now (b .entry)) (now (weights .entry)) (now (homes .entry)) (now (rows .entry))) i at (now (out .entry)) (now (out .exit)) (now (alts .exit)) ⌝ }
 {
     let n = net.n as usize;
     let to = at + n * n;
@@ -151,10 +135,10 @@ fn topologies<'a>(
     alts: &mut [[u8; Network::MOST_NODES]],
     out: &mut [u8],
 )
-    requires { ⌜ AcceptedSet (setWith net (lists (now a) (now b) (now weights) (now homes) (now rows))) ⌝ }
-    requires { ⌜ Work (setWith net (lists (now a) (now b) (now weights) (now homes) (now rows))) (now c) (now d) (now w) ⌝ }
+    requires { ⌜ AcceptedSet (listed net (now a) (now b) (now weights) (now homes) (now rows)) ⌝ }
+    requires { ⌜ Work (listed net (now a) (now b) (now weights) (now homes) (now rows)) (now c) (now d) (now w) ⌝ }
     requires { ⌜ (length (now alts) ≡ net .n) × (length (now out) ≡ (net .k + 1) * (net .n * net .n)) ⌝ }
-    ensures { λ _. ⌜ AllAdded (setWith net (lists (now (a .entry)) (now (b .entry)) (now (weights .entry)) (now (homes .entry)) (now (rows .entry)))) (now (out .exit)) (now (alts .exit)) ⌝ }
+    ensures { λ _. ⌜ AllAdded (listed net (now (a .entry)) (now (b .entry)) (now (weights .entry)) (now (homes .entry)) (now (rows .entry))) (now (out .exit)) (now (alts .exit)) ⌝ }
 {
     let n = net.n as usize;
     let size = n * n;
@@ -210,10 +194,10 @@ fn all_tables<'a>(
     alts: &mut [[u8; Network::MOST_NODES]],
     out: &mut [u8],
 )
-    requires { ⌜ AcceptedSet (setWith net (lists (now a) (now b) (now weights) (now homes) (now rows))) ⌝ }
-    requires { ⌜ Work (setWith net (lists (now a) (now b) (now weights) (now homes) (now rows))) (now c) (now d) (now w) ⌝ }
+    requires { ⌜ AcceptedSet (listed net (now a) (now b) (now weights) (now homes) (now rows)) ⌝ }
+    requires { ⌜ Work (listed net (now a) (now b) (now weights) (now homes) (now rows)) (now c) (now d) (now w) ⌝ }
     requires { ⌜ (length (now alts) ≡ net .n) × (length (now out) ≡ tablesLength net) ⌝ }
-    ensures { λ _. ⌜ now (out .exit) ≡ tableBytes (setWith net (lists (now (a .entry)) (now (b .entry)) (now (weights .entry)) (now (homes .entry)) (now (rows .entry)))) ⌝ }
+    ensures { λ _. ⌜ now (out .exit) ≡ tableBytes (listed net (now (a .entry)) (now (b .entry)) (now (weights .entry)) (now (homes .entry)) (now (rows .entry))) ⌝ }
 {
     let n = net.n as usize;
     let split = out.len() - n * n;
@@ -247,10 +231,10 @@ fn in_room<'a>(
     alts: &mut [[u8; Network::MOST_NODES]],
     out: &mut [u8],
 )
-    requires { ⌜ AcceptedSet (setWith net (lists (now a) (now b) (now weights) (now homes) (now rows))) ⌝ }
+    requires { ⌜ AcceptedSet (listed net (now a) (now b) (now weights) (now homes) (now rows)) ⌝ }
     requires { ⌜ Roomy (net .m) (net .n) (length (now c)) (length (now d)) (length (now w)) (length (now alts)) ⌝ }
     requires { ⌜ length (now out) ≡ tablesLength net ⌝ }
-    ensures { λ _. ⌜ now (out .exit) ≡ tableBytes (setWith net (lists (now (a .entry)) (now (b .entry)) (now (weights .entry)) (now (homes .entry)) (now (rows .entry)))) ⌝ }
+    ensures { λ _. ⌜ now (out .exit) ≡ tableBytes (listed net (now (a .entry)) (now (b .entry)) (now (weights .entry)) (now (homes .entry)) (now (rows .entry))) ⌝ }
 {
     let m = net.m as usize;
     let n = net.n as usize;
@@ -279,9 +263,9 @@ pub fn fill_tables<'a>(
     rows: &'a [u16],
     out: &mut [u8],
 )
-    requires { ⌜ AcceptedSet (setWith net (lists (now a) (now b) (now weights) (now homes) (now rows))) ⌝ }
+    requires { ⌜ AcceptedSet (listed net (now a) (now b) (now weights) (now homes) (now rows)) ⌝ }
     requires { ⌜ length (now out) ≡ tablesLength net ⌝ }
-    ensures { λ _. ⌜ now (out .exit) ≡ tableBytes (setWith net (lists (now (a .entry)) (now (b .entry)) (now (weights .entry)) (now (homes .entry)) (now (rows .entry)))) ⌝ }
+    ensures { λ _. ⌜ now (out .exit) ≡ tableBytes (listed net (now (a .entry)) (now (b .entry)) (now (weights .entry)) (now (homes .entry)) (now (rows .entry))) ⌝ }
 {
     let row = [0u32; Network::LANES];
     let bytes = [0u8; Network::MOST_NODES];

@@ -24,7 +24,7 @@ use Rattle.routes.specs.Lanes.{column}
 use Rattle.routes.specs.Costs.{Distances}
 use Rattle.routes.proofs.Lanes.{same?}
 use Rattle.routes.proofs.Exact.{distance-entry}
-use Rattle.hops.specs.Ties.{firstOf}
+use Rattle.words.specs.Word.{lowestIn}
 use Rattle.hops.specs.Alternates.{noted, notedLink, outletsBy, eligible, leastOf, nearBit, nearWord, alternateBy, alternateOf}
 use Rattle.hops.proofs.Lowest.{first-or, first-pick, first-zero}
 use Rattle.hops.proofs.NextHops.{split}
@@ -63,7 +63,7 @@ module _ (near : List Bool) (d : List (List ℕ)) (v best : ℕ) where
   chosen : ℕ → Bool
   chosen w = eligible near v w && eqb (getD (column v d) w 0) best
 
-  word-first : (k : ℕ) → k ≤ 32 → firstOf (nearWord near d v best k) ≡ lowest chosen k 32
+  word-first : (k : ℕ) → k ≤ 32 → lowestIn (nearWord near d v best k) ≡ lowest chosen k 32
   unfolding nearWord nearBit chosen
   word-first zero h = first-zero ∙ (unfold lowest in refl)
   word-first (suc k) h =
@@ -269,7 +269,7 @@ module _ (S : Set) (A : AcceptedSet S) (u : ℕ) (lu : u < S .net .n) where
     published : ℕ → Bool
     published w = candidate S u v w && eqb (getD D w far) (least (candidate S u v) (λ x. getD D x far) (S .net .n) far)
 
-    nearest-found : neighbours S u v ≡ true → (home S u ≡ home S v → ⊥) → nearest S u v D ≡ firstOf (nearWord near d v (leastOf near d v (S .net .n)) (S .net .n))
+    nearest-found : neighbours S u v ≡ true → (home S u ≡ home S v → ⊥) → nearest S u v D ≡ lowestIn (nearWord near d v (leastOf near d v (S .net .n)) (S .net .n))
     unfolding nearest published chosen D alternate
     nearest-found n ne =
         let best = leastOf near d v (S .net .n) in
@@ -298,11 +298,11 @@ module _ (S : Set) (A : AcceptedSet S) (u : ℕ) (lu : u < S .net .n) where
         go : (b : Bool) → getD near v false ≡ b → alternateBy near d (S .net .n) v ≡ alternate S u v
         go true e =
             let o = near-outlet v e in
-            if-yes (getD near v false) (firstOf (nearWord near d v (leastOf near d v (S .net .n)) (S .net .n))) 255 e
+            if-yes (getD near v false) (lowestIn (nearWord near d v (leastOf near d v (S .net .n)) (S .net .n))) 255 e
             ∙ sym (nearest-found (o .joined) (outlet-apart v o))
             ∙ sym (if-yes (neighbours S u v && not (eqb (home S u) (home S v))) (nearest S u v (distances S (home S u) v)) 255 (sym (near-is v) ∙ e))
         go false e =
-            if-no (getD near v false) (firstOf (nearWord near d v (leastOf near d v (S .net .n)) (S .net .n))) 255 e
+            if-no (getD near v false) (lowestIn (nearWord near d v (leastOf near d v (S .net .n)) (S .net .n))) 255 e
             ∙ sym (if-no (neighbours S u v && not (eqb (home S u) (home S v))) (nearest S u v (distances S (home S u) v)) 255 (sym (near-is v) ∙ e))
 
     pub alternate-of : alternateOf (S .a) (S .b) (S .homes) d u v ≡ alternate S u v

@@ -15,7 +15,8 @@ use borrow.Author.Tests.{eq-eqb, ne-eqb}
 use Rattle.rules.specs.Basics.{if_then_else_}
 use Rattle.routes.specs.Passes.{Net}
 use Rattle.routes.proofs.Lanes.{same?}
-use Rattle.hops.specs.Ties.{bitFor, orWord, tieOf, mark, markBoth, markLink, marks, firstOf, hopOf, via, tieEnd, lowestEnd}
+use Rattle.words.specs.Word.{either, lowestIn, only}
+use Rattle.hops.specs.Ties.{tieOf, mark, markBoth, markLink, marks, hopOf, via, tieEnd, lowestEnd}
 
 or-half : (a b : ℕ) → bitOr a b / 2 ≡ bitOr (a / 2) (b / 2)
 or-half a b = omega (arith, or-step a b)
@@ -50,44 +51,44 @@ trailing-bit (suc k) (suc y) h =
     let f : 2 ^ suc y / 2 ≡ 2 ^ y = omega (arith, p) in
     ap₂ under e (ap (trailingZeros k) f ∙ trailing-bit k y (omega arith))
 
-pub first-or : (a b : ℕ) → firstOf (orWord a b) ≡ min (firstOf a) (firstOf b)
-unfolding firstOf orWord
+pub first-or : (a b : ℕ) → lowestIn (either a b) ≡ min (lowestIn a) (lowestIn b)
+unfolding lowestIn either
 first-or a b = trailing-or 32 a b
 
-first-bit : (y : ℕ) → y < 32 → firstOf (bitFor y) ≡ y
-unfolding firstOf bitFor
+first-bit : (y : ℕ) → y < 32 → lowestIn (only y) ≡ y
+unfolding lowestIn only
 first-bit y h = trailing-bit 32 y h
 
-pub first-zero : firstOf 0 ≡ 32
-unfolding firstOf
+pub first-zero : lowestIn 0 ≡ 32
+unfolding lowestIn
 first-zero = trailing-of-zero 32
 
-pub first-low : (w : ℕ) → firstOf w ≤ 32
-unfolding firstOf
+pub first-low : (w : ℕ) → lowestIn w ≤ 32
+unfolding lowestIn
 first-low w = trailing-le 32 w
 
-pub first-pick : (s : Bool) (y : ℕ) → y < 32 → firstOf (if s then bitFor y else 0) ≡ (if s then y else 32)
+pub first-pick : (s : Bool) (y : ℕ) → y < 32 → lowestIn (if s then only y else 0) ≡ (if s then y else 32)
 unfolding if_then_else_
 first-pick true y h = first-bit y h
 first-pick false y h = first-zero
 
-first-mark : (x y c u : ℕ) (d w : List ℕ) → x < length w → y < 32 → firstOf (getD (mark x y c d w) u 0) ≡ min (firstOf (getD w u 0)) (via x y u c d)
+first-mark : (x y c u : ℕ) (d w : List ℕ) → x < length w → y < 32 → lowestIn (getD (mark x y c d w) u 0) ≡ min (lowestIn (getD w u 0)) (via x y u c d)
 unfolding mark via tieOf if_then_else_
 first-mark x y c u d w h g =
-    let bit = if eqb (c + getD d y 0) (getD d x 0) then bitFor y else 0 in
-    let word = orWord (getD w x 0) bit in
+    let bit = if eqb (c + getD d y 0) (getD d x 0) then only y else 0 in
+    let word = either (getD w x 0) bit in
     ⊎-elim
     (λ (e : x ≡ u).
     rw (← e, eq-eqb x x refl)
-    (ap firstOf (getD-set-same w x word 0 h) ∙ first-or (getD w x 0) bit ∙ ap (min (firstOf (getD w x 0))) (first-pick (eqb (c + getD d y 0) (getD d x 0)) y g)))
+    (ap lowestIn (getD-set-same w x word 0 h) ∙ first-or (getD w x 0) bit ∙ ap (min (lowestIn (getD w x 0))) (first-pick (eqb (c + getD d y 0) (getD d x 0)) y g)))
     (λ (ne : x ≡ u → ⊥).
     rw (ne-eqb x u ne)
-    (ap firstOf (getD-set-other w x u word 0 (λ e. ne (sym e))) ∙ omega (arith, first-low (getD w u 0))))
+    (ap lowestIn (getD-set-other w x u word 0 (λ e. ne (sym e))) ∙ omega (arith, first-low (getD w u 0))))
     (same? x u)
 
 mark-length : (x y c : ℕ) (d w : List ℕ) → length (mark x y c d w) ≡ length w
 unfolding mark
-mark-length x y c d w = length-set w x (orWord (getD w x 0) (tieOf (c + getD d y 0) (getD d x 0) (bitFor y)))
+mark-length x y c d w = length-set w x (either (getD w x 0) (tieOf (c + getD d y 0) (getD d x 0) (only y)))
 
 pub marks-length : (G : Net) (k : ℕ) (d w : List ℕ) → length (marks G k d w) ≡ length w
 unfolding marks markLink markBoth
@@ -95,9 +96,9 @@ marks-length G zero d w = refl
 marks-length G (suc k) d w = mark-length (G .b k) (G .a k) (G .cost k) d (mark (G .a k) (G .b k) (G .cost k) d (marks G k d w)) ∙ mark-length (G .a k) (G .b k) (G .cost k) d (marks G k d w) ∙ marks-length G k d w
 
 module _ (G : Net) (n u : ℕ) (d : List ℕ) (few : n ≤ 32) (a-in : (l : ℕ) → l < G .links → G .a l < n) (b-in : (l : ℕ) → l < G .links → G .b l < n) (u-in : u < n) where
-  marks-first : (k : ℕ) → k ≤ G .links → firstOf (getD (marks G k d (replicate n 0)) u 0) ≡ lowestEnd G d u k
+  marks-first : (k : ℕ) → k ≤ G .links → lowestIn (getD (marks G k d (replicate n 0)) u 0) ≡ lowestEnd G d u k
   unfolding marks markLink markBoth lowestEnd tieEnd
-  marks-first zero h = ap firstOf (getD-replicate n u 0 0 u-in) ∙ first-zero
+  marks-first zero h = ap lowestIn (getD-replicate n u 0 0 u-in) ∙ first-zero
   marks-first (suc k) h =
       let w = marks G k d (replicate n 0) in
       let x = G .a k in

@@ -15,7 +15,7 @@ use Rattle.rules.specs.Distance.{far}
 use Rattle.rules.proofs.Choices.{if-yes, if-no}
 use Rattle.routes.specs.Lanes.{column}
 use Rattle.routes.proofs.Lanes.{same?, column-at}
-use Rattle.hops.specs.Ties.{orWord, bitFor, firstOf}
+use Rattle.words.specs.Word.{either, lowestIn, only}
 use Rattle.hops.specs.Alternates.{noted, notedLink, outletsBy, eligible, lesserOf, leastOf, nearBit, nearWord, alternateBy, alternateOf, Homed, RowBy, RowOf, RowAt, RowsTo}
 
 -- ---- `flag`, `note`, `note_link`
@@ -101,7 +101,7 @@ pub lesser-none : (ok : Bool) (key best : ℕ) → ok ≡ false → best ≡ les
 unfolding lesserOf
 lesser-none ok key best e = sym (if-no ok (min key best) best e)
 
-pub bit-here : (ok : Bool) (key best w s x : ℕ) → ok ≡ true → key ≡ best → s ≡ bitFor x → x ≡ w → s ≡ nearBit ok key best w
+pub bit-here : (ok : Bool) (key best w s x : ℕ) → ok ≡ true → key ≡ best → s ≡ only x → x ≡ w → s ≡ nearBit ok key best w
 unfolding nearBit if_then_else_
 bit-here ok key best w s x e h q g = q ∙ rw (e, eq-eqb key best h, g)
 
@@ -131,7 +131,7 @@ module _ (near : List Bool) (d : List (List ℕ)) (v : ℕ) where
   word-none best = refl
 
   pub word-more : (w best word key bit s : ℕ) (ok : Bool) → word ≡ nearWord near d v best w → ok ≡ eligible near v w → key ≡ getD (column v d) w 0 → bit ≡ nearBit ok key best w
-      → s ≡ orWord word bit → s ≡ nearWord near d v best (w + 1)
+      → s ≡ either word bit → s ≡ nearWord near d v best (w + 1)
   unfolding nearWord
   word-more w best word key bit s ok W eo ek eb es = es ∙ rw (eb, eo, ek, W, add-one)
 
@@ -139,15 +139,15 @@ module _ (near : List Bool) (d : List (List ℕ)) (v : ℕ) where
   word-done w best word W h g = let z : w ≡ length d = omega arith in subst (λ (k : ℕ). word ≡ nearWord near d v best k) z W
 
   -- ---- `alternate`
-  pub some-alternate : (best word s : ℕ) → getD near v false ≡ true → best ≡ leastOf near d v (length d) → word ≡ nearWord near d v best (length d) → s ≡ firstOf word
+  pub some-alternate : (best word s : ℕ) → getD near v false ≡ true → best ≡ leastOf near d v (length d) → word ≡ nearWord near d v best (length d) → s ≡ lowestIn word
       → s ≡ alternateBy near d (length d) v
   unfolding alternateBy
   some-alternate best word s e eb ew es =
-      es ∙ rw (ew, eb) (sym (if-yes (getD near v false) (firstOf (nearWord near d v (leastOf near d v (length d)) (length d))) 255 e))
+      es ∙ rw (ew, eb) (sym (if-yes (getD near v false) (lowestIn (nearWord near d v (leastOf near d v (length d)) (length d))) 255 e))
 
   pub no-alternate : getD near v false ≡ false → 255 ≡ alternateBy near d (length d) v
   unfolding alternateBy
-  no-alternate e = sym (if-no (getD near v false) (firstOf (nearWord near d v (leastOf near d v (length d)) (length d))) 255 e)
+  no-alternate e = sym (if-no (getD near v false) (lowestIn (nearWord near d v (leastOf near d v (length d)) (length d))) 255 e)
 
 -- ---- `alternate_row`
 pub row-none : (near : List Bool) (d : List (List ℕ)) (r : List ℕ) → RowBy near d r 0

@@ -21,14 +21,11 @@ use Rattle.routes.specs.Lanes.{column}
 use Rattle.routes.specs.Passes.{Net, netOf, Wired}
 use Rattle.routes.proofs.Lanes.{same?, column-at, column-long, column-set}
 use Rattle.routes.proofs.Filling.{fill-more, fill-done, rows-more, rows-done}
-use Rattle.hops.specs.Ties.{orWord, tieOf, bitFor, firstOf, markLane, marked, mark, markBoth, markLink, marks, WideRows, Marked, MarkSpot, MarkPair, Clear, Worded, hopOf, hopAt, hopsOf, tieHop, tieTable}
+use Rattle.words.specs.Word.{either, lowestIn, only}
+use Rattle.hops.specs.Ties.{tieOf, markLane, marked, mark, markBoth, markLink, marks, WideRows, Marked, MarkSpot, MarkPair, Clear, Worded, hopOf, hopAt, hopsOf, tieHop, tieTable}
 use Rattle.hops.proofs.Lowest.{hop-is}
 
 -- ---- `tie`, `or_word`
-pub or-is : (w v : ℕ) → lib.Bits.bitOr w v ≡ orWord w v
-unfolding orWord
-or-is w v = refl
-
 pub tie-yes : (v o bit : ℕ) → v ≡ o → bit ≡ tieOf v o bit
 unfolding tieOf
 tie-yes v o bit e = sym (if-yes (eqb v o) bit 0 (eq-eqb v o e))
@@ -42,7 +39,7 @@ pub mark-none : (c bit : ℕ) (p q w : List ℕ) → w ≡ marked c bit p q 0 w
 unfolding marked
 mark-none c bit p q w = refl
 
-pub mark-more : (c bit t v k : ℕ) (p q w e : List ℕ) → e ≡ marked c bit p q t w → v ≡ tieOf (c + getD q t 0) (getD p t 0) bit → k ≡ orWord (getD e t 0) v → set e t k ≡ marked c bit p q (t + 1) w
+pub mark-more : (c bit t v k : ℕ) (p q w e : List ℕ) → e ≡ marked c bit p q t w → v ≡ tieOf (c + getD q t 0) (getD p t 0) bit → k ≡ either (getD e t 0) v → set e t k ≡ marked c bit p q (t + 1) w
 unfolding marked markLane
 mark-more c bit t v k p q w e B ev ek = rw (ek, ev, B, add-one)
 
@@ -53,25 +50,25 @@ module _ (c bit : ℕ) (p q w : List ℕ) where
   marked-length : (k : ℕ) → length (marked c bit p q k w) ≡ length w
   unfolding marked markLane
   marked-length zero = refl
-  marked-length (suc k) = length-set (marked c bit p q k w) k (orWord (getD (marked c bit p q k w) k 0) (tieOf (c + getD q k 0) (getD p k 0) bit)) ∙ marked-length k
+  marked-length (suc k) = length-set (marked c bit p q k w) k (either (getD (marked c bit p q k w) k 0) (tieOf (c + getD q k 0) (getD p k 0) bit)) ∙ marked-length k
 
   marked-past : (k u : ℕ) → k ≤ u → getD (marked c bit p q k w) u 0 ≡ getD w u 0
   unfolding marked markLane
   marked-past zero u h = refl
-  marked-past (suc k) u h = getD-set-other (marked c bit p q k w) k u (orWord (getD (marked c bit p q k w) k 0) (tieOf (c + getD q k 0) (getD p k 0) bit)) 0 (λ e. omega arith) ∙ marked-past k u (omega arith)
+  marked-past (suc k) u h = getD-set-other (marked c bit p q k w) k u (either (getD (marked c bit p q k w) k 0) (tieOf (c + getD q k 0) (getD p k 0) bit)) 0 (λ e. omega arith) ∙ marked-past k u (omega arith)
 
-  marked-at : (k t : ℕ) → t < k → k ≤ length w → getD (marked c bit p q k w) t 0 ≡ orWord (getD w t 0) (tieOf (c + getD q t 0) (getD p t 0) bit)
+  marked-at : (k t : ℕ) → t < k → k ≤ length w → getD (marked c bit p q k w) t 0 ≡ either (getD w t 0) (tieOf (c + getD q t 0) (getD p t 0) bit)
   unfolding marked markLane
   marked-at zero t h g = absurd (omega arith)
   marked-at (suc k) t h g =
-      let v = orWord (getD (marked c bit p q k w) k 0) (tieOf (c + getD q k 0) (getD p k 0) bit) in
+      let v = either (getD (marked c bit p q k w) k 0) (tieOf (c + getD q k 0) (getD p k 0) bit) in
       ⊎-elim
       (λ (e : t ≡ k). rw e (getD-set-same (marked c bit p q k w) k v 0 (omega (arith, marked-length k)) ∙ rw (marked-past k k (le-refl k))))
       (λ (f : t < k). getD-set-other (marked c bit p q k w) k t v 0 (λ e. omega arith) ∙ marked-at k t f (omega arith))
       (eq-or-lt-of-le (le-of-suc-le-suc h))
 
 -- ---- `mark_one`
-pub one-marked : (x y c bit : ℕ) (d w : List (List ℕ)) (v : List ℕ) → v ≡ marked c bit (getD d x []) (getD d y []) 32 (getD w x []) → bit ≡ bitFor y → MarkSpot d w x y c → WideRows w → Marked d w (set w x v) (mark x y c)
+pub one-marked : (x y c bit : ℕ) (d w : List (List ℕ)) (v : List ℕ) → v ≡ marked c bit (getD d x []) (getD d y []) 32 (getD w x []) → bit ≡ only y → MarkSpot d w x y c → WideRows w → Marked d w (set w x v) (mark x y c)
 unfolding mark
 one-marked x y c bit d w v e eb S W =
     let p = getD d x [] in
@@ -151,27 +148,14 @@ clear-column w n t C h =
 pub worded : (a b c : List ℕ) (d w v : List (List ℕ)) (n : ℕ) → Clear w n → n ≡ length d → Marked d w v (marks (netOf a b c) (length a)) → Worded (netOf a b c) d v (length d)
 worded a b c d w v n C e M = record { is = λ t h. M .is t h ∙ rw (clear-column w n t C h, e); long = M .long ∙ C .long ∙ e }
 
--- ---- `bit_of`
-pub bit-is : (y : ℕ) → y < 32 → (1 * 2 ^ y) % 4294967296 ≡ bitFor y
-unfolding bitFor
-bit-is y h = let p : 2 ^ y ≤ 2 ^ 31 = lib.Pow.pow-mono {i = y} {j = 31} (omega arith) in omega (arith, p)
-
--- ---- `first`, `hop`
-pub first-is : (w : ℕ) → trailingZeros 32 w ≡ firstOf w
-unfolding firstOf
-first-is w = refl
-
-pub first-fits : (w z : ℕ) → z ≡ firstOf w → Fits w8 z
-unfolding firstOf
-first-fits w z e = record { fits = omega (arith, trailing-le 32 w) }
-
+-- ---- `hop`
 pub hop-self : (w u t : ℕ) → u ≡ t → u ≡ hopOf w u t
 unfolding hopOf
-hop-self w u t e = sym (if-yes (eqb u t) u (firstOf w) (eq-eqb u t e))
+hop-self w u t e = sym (if-yes (eqb u t) u (lowestIn w) (eq-eqb u t e))
 
-pub hop-first : (w u t s : ℕ) → (u ≡ t → ⊥) → s ≡ firstOf w → s ≡ hopOf w u t
+pub hop-first : (w u t s : ℕ) → (u ≡ t → ⊥) → s ≡ lowestIn w → s ≡ hopOf w u t
 unfolding hopOf
-hop-first w u t s ne q = q ∙ sym (if-no (eqb u t) u (firstOf w) (ne-eqb u t ne))
+hop-first w u t s ne q = q ∙ sym (if-no (eqb u t) u (lowestIn w) (ne-eqb u t ne))
 
 -- ---- `hop_row`
 pub lane-more : (w : List ℕ) (u : ℕ) (d e : List ℕ) (t v : ℕ) → e ≡ upTo (hopAt w u) t ++ drop t d → t < length e → length e ≡ length d → v ≡ hopOf (getD w t 0) u t

@@ -8,7 +8,7 @@ use lib.Dec.{eqb}
 use Rattle.rules.specs.Basics.{if_then_else_, least}
 use Rattle.rules.specs.Distance.{far}
 use Rattle.routes.specs.Lanes.{column}
-use Rattle.hops.specs.Ties.{orWord, bitFor, firstOf}
+use Rattle.words.specs.Word.{either, lowestIn, only}
 
 -- ---- the neighbours of u with another home
 
@@ -39,16 +39,16 @@ unfoldable pub leastOf : List Bool → List (List ℕ) → ℕ → ℕ → ℕ
 leastOf near d v k = least (eligible near v) (λ w. getD (column v d) w 0) k far
 
 unfoldable pub nearBit : Bool → ℕ → ℕ → ℕ → ℕ
-nearBit ok key best w = if ok && eqb key best then bitFor w else 0
+nearBit ok key best w = if ok && eqb key best then only w else 0
 
 -- the word of those below k at that distance
 unfoldable pub nearWord : List Bool → List (List ℕ) → ℕ → ℕ → ℕ → ℕ
 nearWord near d v best zero = 0
-nearWord near d v best (suc k) = orWord (nearWord near d v best k) (nearBit (eligible near v k) (getD (column v d) k 0) best k)
+nearWord near d v best (suc k) = either (nearWord near d v best k) (nearBit (eligible near v k) (getD (column v d) k 0) best k)
 
 -- by the flags; n nodes
 unfoldable pub alternateBy : List Bool → List (List ℕ) → ℕ → ℕ → ℕ
-alternateBy near d n v = if getD near v false then firstOf (nearWord near d v (leastOf near d v n) n) else 255
+alternateBy near d n v = if getD near v false then lowestIn (nearWord near d v (leastOf near d v n) n) else 255
 
 unfoldable pub alternateOf : List ℕ → List ℕ → List ℕ → List (List ℕ) → ℕ → ℕ → ℕ
 alternateOf a b homes d u v = alternateBy (outletsBy a b homes u (length a)) d (length d) v

@@ -8,28 +8,18 @@ use lib.Bits.{bitOr}
 use lib.Count.{trailingZeros}
 use Rattle.rules.specs.Basics.{if_then_else_, upTo, flat}
 use Rattle.rules.specs.Distance.{far}
+use Rattle.words.specs.Word.{either, only, lowestIn}
 use Rattle.routes.specs.Passes.{Net}
 use Rattle.routes.specs.Lanes.{column}
-
-unfoldable pub orWord : ℕ → ℕ → ℕ
-orWord w v = bitOr w v
 
 -- the bit, where v is o
 unfoldable pub tieOf : ℕ → ℕ → ℕ → ℕ
 tieOf v o bit = if eqb v o then bit else 0
 
--- the word of node y alone
-unfoldable pub bitFor : ℕ → ℕ
-bitFor y = 2 ^ y
-
--- the lowest node of a word; 32 where it has none
-unfoldable pub firstOf : ℕ → ℕ
-firstOf w = trailingZeros 32 w
-
 -- ---- a row of words: node x, by its row p and the row q of a neighbour over a link of cost c
 
 unfoldable pub markLane : ℕ → ℕ → List ℕ → List ℕ → ℕ → List ℕ → List ℕ
-markLane c bit p q t w = set w t (orWord (getD w t 0) (tieOf (c + getD q t 0) (getD p t 0) bit))
+markLane c bit p q t w = set w t (either (getD w t 0) (tieOf (c + getD q t 0) (getD p t 0) bit))
 
 unfoldable pub marked : ℕ → ℕ → List ℕ → List ℕ → ℕ → List ℕ → List ℕ
 marked c bit p q zero w = w
@@ -38,7 +28,7 @@ marked c bit p q (suc k) w = markLane c bit p q k (marked c bit p q k w)
 -- ---- a column of words, w, by a column of distances, d
 
 unfoldable pub mark : ℕ → ℕ → ℕ → List ℕ → List ℕ → List ℕ
-mark x y c d w = set w x (orWord (getD w x 0) (tieOf (c + getD d y 0) (getD d x 0) (bitFor y)))
+mark x y c d w = set w x (either (getD w x 0) (tieOf (c + getD d y 0) (getD d x 0) (only y)))
 
 -- both ways
 unfoldable pub markBoth : ℕ → ℕ → ℕ → List ℕ → List ℕ → List ℕ
@@ -89,7 +79,7 @@ pub record Worded (G : Net) (d w : List (List ℕ)) (n : ℕ) : Type 0 where
 -- ---- the next hops
 
 unfoldable pub hopOf : ℕ → ℕ → ℕ → ℕ
-hopOf w u t = if eqb u t then u else firstOf w
+hopOf w u t = if eqb u t then u else lowestIn w
 
 unfoldable pub hopAt : List ℕ → ℕ → ℕ → ℕ
 hopAt w u t = hopOf (getD w t 0) u t

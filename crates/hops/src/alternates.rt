@@ -1,9 +1,9 @@
 // The alternates of the nodes whose home is one topology, by its distances: for a neighbour that has another home, the nearest to it among the
 // other neighbours that have another home.
-use crate::bit_of;
-use crate::first;
-use crate::or_word;
 use rules::Network;
+use words::either;
+use words::lowest;
+use words::only;
 ghost use mathlib.Core.Path.{_≡_};
 ghost use mathlib.Core.Bool.{false, _||_};
 ghost use lib.Dec.{eqb};
@@ -121,7 +121,7 @@ fn near_bit(ok: bool, key: u32, best: u32, w: usize) -> u32
 {
     if ok {
         if key == best {
-            return bit_of(w as u8);
+            return only(w as u8);
         }
     }
     0
@@ -143,7 +143,7 @@ fn nearest(
         let ok = stands_in(near, v, w);
         let reach = distance_at(d, w, v);
         let bit = near_bit(ok, reach, best, w);
-        word = or_word(word, bit);
+        word = either(word, bit);
         w += 1;
     }
     word
@@ -156,7 +156,7 @@ fn alternate(near: &[bool; Network::MOST_NODES], d: &[[u32; Network::LANES]], v:
 {
     if near[v] {
         let best = least_distance(near, d, v);
-        return first(nearest(near, d, v, best));
+        return lowest(nearest(near, d, v, best));
     }
     NONE
 }

@@ -3,6 +3,9 @@
 pub mod alternates; // alternates.rt: the alternates of the nodes whose home it is
 
 use rules::Network;
+use words::either;
+use words::lowest;
+use words::only;
 ghost use mathlib.Core.Path.{_≡_};
 ghost use Prim.Native.Nat.{_+_, _*_, _≤_, _<_};
 ghost use lib.ListN.{length, set, replicate};
@@ -10,13 +13,7 @@ ghost use Rattle.rules.specs.Basics.{upTo, flat};
 ghost use Rattle.rules.specs.Distance.{far};
 ghost use Rattle.routes.specs.Lanes.{LowRow, LowRows};
 ghost use Rattle.routes.specs.Passes.{netOf, Wired};
-ghost use Rattle.hops.specs.Ties.{orWord, tieOf, bitFor, firstOf, marked, mark, markBoth, markLink, marks, WideRows, Marked, MarkSpot, MarkPair, Clear, Worded, hopOf, hopAt, hopsOf, tieTable};
-
-fn or_word(w: u32, v: u32) -> u32
-    ensures { λ s. ⌜ s ≡ orWord w v ⌝ }
-{
-    w | v
-}
+ghost use Rattle.hops.specs.Ties.{tieOf, marked, mark, markBoth, markLink, marks, WideRows, Marked, MarkSpot, MarkPair, Clear, Worded, hopOf, hopAt, hopsOf, tieTable};
 
 // The bit, where v is o.
 fn tie(v: u32, o: u32, bit: u32) -> u32
@@ -26,13 +23,6 @@ fn tie(v: u32, o: u32, bit: u32) -> u32
         return bit;
     }
     0
-}
-
-fn bit_of(y: u8) -> u32
-    requires { ⌜ y < 32 ⌝ }
-    ensures { λ s. ⌜ s ≡ bitFor y ⌝ }
-{
-    1u32 << y
 }
 
 // In the words w of a node whose row is p, the bit of a neighbour whose row is q, over a link of cost c, where it ties.
@@ -50,7 +40,7 @@ fn mark_row(
     let mut t = 0;
     while t < Network::LANES {
         let v = tie(c + q[t], p[t], bit);
-        w[t] = or_word(w[t], v);
+        w[t] = either(w[t], v);
         t += 1;
     }
 }
@@ -61,7 +51,7 @@ fn mark_one(w: &mut [[u32; Network::LANES]], d: &[[u32; Network::LANES]], x: u8,
     requires { ⌜ WideRows (now w) ⌝ }
     ensures { λ _. ⌜ Marked (now (d .entry)) (now (w .entry)) (now (w .exit)) (mark x y c) ⌝ }
 {
-    let bit = bit_of(y);
+    let bit = only(y);
     let mut v = w[x as usize];
     let p = d[x as usize];
     let q = d[y as usize];
@@ -155,26 +145,13 @@ fn words(
     mark_links(a, b, c, d, w);
 }
 
-// The lowest node of a word that has one.
-fn lowest_bit(w: u32) -> u32
-    ensures { λ s. ⌜ s ≡ firstOf w ⌝ }
-{
-    u32::trailing_zeros(w)
-}
-
-fn first(w: u32) -> u8
-    ensures { λ s. ⌜ s ≡ firstOf w ⌝ }
-{
-    lowest_bit(w) as u8
-}
-
 fn hop(w: u32, u: u8, t: u8) -> u8
     ensures { λ s. ⌜ s ≡ hopOf w u t ⌝ }
 {
     if u == t {
         return u;
     }
-    first(w)
+    lowest(w)
 }
 
 // The next hops of node u, by its words.

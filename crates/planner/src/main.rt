@@ -5,7 +5,6 @@ mod argument; // argument.rt: the cap that is asked for
 
 use argument::Asked;
 use argument::Cap;
-use console::file_room;
 use console::refused;
 use libc::STDERR_FILENO;
 use libc::STDIN_FILENO;
@@ -28,13 +27,13 @@ fn build_into(graph: &[u8], cap: u8, file: &mut [u8]) {
 }
 
 fn build(graph: &[u8], cap: u8) {
-    let mut file = file_room();
+    let mut file = rooms::file_and_one();
     build_into(graph, cap, &mut file);
 }
 
 // The graph's count of nodes, or the largest cap where it is out of range.
 fn own_cap(graph: &[u8]) -> u8 {
-    let n = housefile::header(graph).n;
+    let n = layout::header(graph).n;
     if n < Network::MIN_NODES {
         return Network::MAX_CAP;
     }
@@ -52,7 +51,7 @@ fn plan(graph: &[u8], cap: Cap) {
 }
 
 fn read_and_plan(cap: Cap) {
-    let mut graph = file_room();
+    let mut graph = rooms::file_and_one();
     let long = io::read_full(STDIN_FILENO, &mut graph);
     plan(&graph[..long], cap);
 }

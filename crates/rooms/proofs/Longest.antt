@@ -1,7 +1,10 @@
--- The lengths of the rooms in figures.
-use mathlib.Core.Path.{_≡_, refl}
+-- The lengths of the rooms in figures; and that a room is one and no other.
+use mathlib.Core.Path.{_≡_, refl, sym, _∙_}
+use mathlib.Core.List.{List}
+use Prim.Native.Nat.{ℕ}
 use Rattle.rules.specs.Basics.{need}
 use Rattle.rules.specs.Limits.{rowWeights, rowLength, homeRecords, linkPlace, homePlace, rowPlace, fileLength, tablesLength, trailRoom, reportRoom, longest}
+use Rattle.rooms.specs.Rooms.{Room}
 
 pub longest-file : longest .file ≡ 9192
 unfolding need rowWeights rowLength homeRecords linkPlace homePlace rowPlace fileLength longest
@@ -18,3 +21,7 @@ longest-trail = refl
 pub longest-report : longest .report ≡ 22875
 unfolding reportRoom longest
 longest-report = refl
+
+-- two results that the promise allows coincide: every byte of the room
+pub one-room : (n : ℕ) (r r′ : List ℕ) → Room n r → Room n r′ → r ≡ r′
+one-room n r r′ p q = p .empty ∙ sym (q .empty)

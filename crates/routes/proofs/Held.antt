@@ -16,6 +16,7 @@ use Rattle.rules.specs.File.{Set, rowStart}
 use Rattle.rules.specs.Isolation.{home, isolated, classBy, class, rowInForce}
 use Rattle.rules.specs.Demands.{AcceptedSet}
 use Rattle.rules.specs.Entries.{lists, setWith}
+use Rattle.routes.specs.Listed.{listed}
 use Rattle.rules.proofs.Rows.{upTo-ext}
 use Rattle.rules.proofs.Homes.{home-low}
 use Rattle.routes.specs.Costs.{costBy, cost, rowOf, HoldsRow, costOf, costAt, Links}
@@ -26,9 +27,9 @@ unfolding isolated
 home-tells S A zero v h = sym (ne-eqb (home S v) 0 (λ e. omega (arith, home-low S A v h)))
 home-tells S A (suc i) v h = rw (le-leb 1 (suc i) (omega arith))
 
-module _ (net : Network) (a b weights homes rows : List ℕ) (A : AcceptedSet (setWith net (lists a b weights homes rows))) (i : ℕ) (hi : i ≤ net .k) where
+module _ (net : Network) (a b weights homes rows : List ℕ) (A : AcceptedSet (listed net a b weights homes rows)) (i : ℕ) (hi : i ≤ net .k) where
   abbrev S : Set
-  S = setWith net (lists a b weights homes rows)
+  S = listed net a b weights homes rows
 
   pub row-is : rowOf weights rows (net .m) i ≡ rowInForce S i
   unfolding setWith rowOf rowInForce rowStart rowWeights if_then_else_

@@ -2,3 +2,4 @@
 pub mod Lanes
 pub mod Passes
 pub mod Costs
+pub mod Listed

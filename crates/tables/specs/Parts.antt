@@ -8,7 +8,7 @@ use Rattle.rules.specs.declared.Network.{Network}
 use Rattle.rules.specs.declared.Verdict.{Verdict}
 use Rattle.rules.specs.declared.Verdict.the-variants.{Accepted}
 use Rattle.rules.specs.Basics.{need}
-use Rattle.rules.specs.Limits.{rowWeights, tablesLength}
+use Rattle.rules.specs.Limits.{rowWeights, tablesLength, largest}
 use Rattle.rules.specs.File.{headerOf, setOf}
 use Rattle.rules.specs.Judgement.{refuse, andThen, check}
 use Rattle.rules.specs.Entries.{Lists, setWith}
@@ -23,11 +23,11 @@ pub record Exact (h : Network) (d : Lists) : Type 0 where
 
 -- lists that are long enough for every set
 pub record Wide (d : Lists) : Type 0 where
-  pub a : 128 ≤ length (d .a)
-  pub b : 128 ≤ length (d .b)
-  pub weights : 128 ≤ length (d .weights)
-  pub homes : 32 ≤ length (d .homes)
-  pub rows : 4096 ≤ length (d .rows)
+  pub a : largest .m ≤ length (d .a)
+  pub b : largest .m ≤ length (d .b)
+  pub weights : largest .m ≤ length (d .weights)
+  pub homes : largest .n ≤ length (d .homes)
+  pub rows : largest .k * largest .m ≤ length (d .rows)
 
 -- lists that hold the set of an accepted file
 pub record Held (s : List ℕ) (h : Network) (d : Lists) : Type 0 where

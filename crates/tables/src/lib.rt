@@ -2,19 +2,18 @@
 // and their length, or 01's refusal with every lent byte as it came: 1 to 6, 13, 7 and 8 by topology, 14. The lists that the
 // tables are made from are local.
 use engine::fill_tables;
-use housefile::header;
+use layout::header;
 use needs::need_room;
-use needs::tables_length;
 use needs::then;
 use reader::lists_into;
-use reader::row_entries;
 use rules::LengthAnswer;
 use rules::Network;
 use rules::Verdict;
 ghost use mathlib.Core.Path.{_≡_};
+ghost use Prim.Native.Nat.{_*_};
 ghost use lib.ListN.{length};
 ghost use Rattle.rules.specs.declared.Verdict.the-variants.{Accepted};
-ghost use Rattle.rules.specs.Limits.{tablesLength};
+ghost use Rattle.rules.specs.Limits.{tablesLength, largest};
 ghost use Rattle.rules.specs.File.{headerOf, setOf};
 ghost use Rattle.rules.specs.Distance.{tableBytes};
 ghost use Rattle.rules.specs.Judgement.{check};
@@ -81,7 +80,7 @@ fn in_parts(
 {
     let m = net.m as usize;
     let n = net.n as usize;
-    let entries = row_entries(net);
+    let entries = net.row_entries();
     from_lists(
         file,
         net,
@@ -95,25 +94,25 @@ fn in_parts(
 }
 
 fn ends() -> [u8; Network::MOST_LINKS]
-    ensures { λ r. ⌜ 128 ≡ length r ⌝ }
+    ensures { λ r. ⌜ largest .m ≡ length r ⌝ }
 {
     [0; Network::MOST_LINKS]
 }
 
 fn link_weights() -> [u16; Network::MOST_LINKS]
-    ensures { λ r. ⌜ 128 ≡ length r ⌝ }
+    ensures { λ r. ⌜ largest .m ≡ length r ⌝ }
 {
     [0; Network::MOST_LINKS]
 }
 
 fn nodes() -> [u8; Network::MOST_NODES]
-    ensures { λ r. ⌜ 32 ≡ length r ⌝ }
+    ensures { λ r. ⌜ largest .n ≡ length r ⌝ }
 {
     [0; Network::MOST_NODES]
 }
 
 fn backup_weights() -> [u16; Network::MOST_ROW_WEIGHTS]
-    ensures { λ r. ⌜ 4096 ≡ length r ⌝ }
+    ensures { λ r. ⌜ largest .k * largest .m ≡ length r ⌝ }
 {
     [0; Network::MOST_ROW_WEIGHTS]
 }
@@ -148,7 +147,7 @@ fn tables_verdict(file: &[u8], room: usize) -> Verdict
     ensures { λ r. ⌜ r ≡ tablesVerdict (now (file .entry)) room ⌝ }
 {
     let v = checker::verdict(file);
-    let long = tables_length(header(file));
+    let long = header(file).tables_length();
     then(v, need_room(long, room))
 }
 
@@ -160,7 +159,7 @@ pub fn tables(file: &[u8], out: &mut [u8]) -> LengthAnswer
     match v {
         Verdict::Accepted => {
             let net = header(file);
-            let long = tables_length(net);
+            let long = net.tables_length();
             fill(file, net, &mut out[..long]);
             LengthAnswer::Length(long)
         }

@@ -4,7 +4,6 @@ mod question; // question.rt: what is asked
 mod show; // show.rt: the lines
 mod word; // word.rt: the words among the arguments
 
-use console::file_room;
 use console::refused;
 use libc::STDIN_FILENO;
 use libc::STDOUT_FILENO;
@@ -13,45 +12,29 @@ use question::Down;
 use question::Question;
 use rules::Failure;
 use rules::Journey;
-use rules::Network;
 use rules::Packet;
 use rules::RunAnswer;
 use rules::Step;
 use rules::Verdict;
 ghost use mathlib.Core.Path.{_≡_};
-ghost use lib.ListN.{length};
 ghost use Rattle.rules.specs.declared.Verdict.the-variants.{Accepted};
 ghost use Rattle.rules.specs.Judgement.{judge};
-
-// Room for the longest tables.
-fn tables_room() -> [u8; Network::LONGEST_TABLES]
-    ensures { λ r. ⌜ 34816 ≡ length r ⌝ }
-{
-    [0; Network::LONGEST_TABLES]
-}
-
-// Room for the longest trail.
-fn trail_room() -> [u8; Network::LONGEST_TRAIL]
-    ensures { λ r. ⌜ 62 ≡ length r ⌝ }
-{
-    [0; Network::LONGEST_TRAIL]
-}
 
 // ---- the hops
 
 // One hop, by the tables that the run left.
-fn hop(file: &[u8], tables: &[u8], failure: Failure, p: Packet) -> Step
+fn one(file: &[u8], tables: &[u8], failure: Failure, p: Packet) -> Step
     requires { ⌜ judge (now file) ≡ Accepted ⌝ }
 {
-    let net = housefile::header(file);
-    forwarding::hop::take(file, net, tables, failure, p)
+    let net = layout::header(file);
+    hop::take(file, net, tables, failure, p)
 }
 
 // One hop and its line; the packet after it.
 fn seen(file: &[u8], tables: &[u8], failure: Failure, p: Packet) -> Packet
     requires { ⌜ judge (now file) ≡ Accepted ⌝ }
 {
-    let step = hop(file, tables, failure, p);
+    let step = one(file, tables, failure, p);
     match step {
         Step::Moved(q, kind) => {
             show::hop(p, q, kind);
@@ -101,8 +84,8 @@ fn run_into(file: &[u8], q: Question, failure: Failure, tables: &mut [u8], trail
 fn run(file: &[u8], q: Question, failure: Failure)
     requires { ⌜ judge (now file) ≡ Accepted ⌝ }
 {
-    let mut tables = tables_room();
-    let mut trail = trail_room();
+    let mut tables = rooms::tables();
+    let mut trail = rooms::trail();
     run_into(file, q, failure, &mut tables, &mut trail);
 }
 
@@ -110,8 +93,8 @@ fn run(file: &[u8], q: Question, failure: Failure)
 fn run_link(file: &[u8], q: Question, a: u8, b: u8)
     requires { ⌜ judge (now file) ≡ Accepted ⌝ }
 {
-    let net = housefile::header(file);
-    let l = forwarding::hop::link_between(file, net, a, b);
+    let net = layout::header(file);
+    let l = hop::link_between(file, net, a, b);
     if l < net.m {
         run(file, q, Failure::Link(l));
         return;
@@ -132,7 +115,7 @@ fn answer(file: &[u8], q: Question)
 
 // A file that is refused has no links to look for.
 fn judged(file: &[u8], q: Question) {
-    let v = housefile::judge(file);
+    let v = judgement::judge(file);
     match v {
         Verdict::Accepted => answer(file, q),
         Verdict::Refused { number, place } => refused(STDOUT_FILENO, number, place),
@@ -140,7 +123,7 @@ fn judged(file: &[u8], q: Question) {
 }
 
 fn read_and_answer(q: Question) {
-    let mut file = file_room();
+    let mut file = rooms::file_and_one();
     let long = io::read_full(STDIN_FILENO, &mut file);
     judged(&file[..long], q);
 }

@@ -1,5 +1,5 @@
 // The words among the arguments.
-use housefile::byte;
+use slices::byte;
 
 fn same(text: &[u8], word: &[u8]) -> bool {
     let long = word.len();

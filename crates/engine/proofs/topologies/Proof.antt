@@ -1,5 +1,5 @@
 use borrow.Author.Needs.{needs}
-use Rattle.rules.specs.Entries.{lists, setWith}
+use Rattle.routes.specs.Listed.{listed}
 use lib.ListN.{length}
 use Rattle.engine.proofs.Whole.{at-fits, square-fits, stage-alternates, stage-done, stage-more, stage-none, turn-fits, turn-room, work-on}
 use mathlib.Core.Path.{_≡_}
@@ -9,7 +9,7 @@ use Rattle.engine.proofs.topologies.Statement.{statement}
 use Rattle.engine.proofs.topologies.Tie as tie
 
 abbrev Inv-loop : tie.InvT-loop
-Inv-loop net a b weights homes rows c₀ d₀ w₀ alts₀ out₀ n size k i₀ at₀ c d w alts out i at = (size ≡ net .n * net .n) × (k ≡ net .k) × (length c ≡ length c₀) × (length d ≡ length d₀) × (length w ≡ length w₀) × (length alts ≡ length alts₀) × Stage (setWith net (lists a b weights homes rows)) out₀ out alts i at
+Inv-loop net a b weights homes rows c₀ d₀ w₀ alts₀ out₀ n size k i₀ at₀ c d w alts out i at = (size ≡ net .n * net .n) × (k ≡ net .k) × (length c ≡ length c₀) × (length d ≡ length d₀) × (length w ≡ length w₀) × (length alts ≡ length alts₀) × Stage (listed net a b weights homes rows) out₀ out alts i at
 
 abbrev μ-loop : tie.MeasureT-loop
 μ-loop net a b weights homes rows c₀ d₀ w₀ alts₀ out₀ n size k i₀ at₀ c d w alts out i at = suc (net .k) - i

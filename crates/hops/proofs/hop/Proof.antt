@@ -6,11 +6,11 @@ use Rattle.hops.proofs.hop.Tie as tie
 returns : tie.Need-returns
 returns c = search hop-self
 
-first-requires : tie.Need-first-requires
-first-requires c κs = search needs
+lowest-requires : tie.Need-lowest-requires
+lowest-requires c κs = search needs
 
 returns-2 : tie.Need-returns-2
 returns-2 c = search hop-first
 
 pub hop-spec : {M : Type 1} → statement M
-hop-spec = tie.close (tie.spec returns first-requires returns-2)
+hop-spec = tie.close (tie.spec returns lowest-requires returns-2)

@@ -4,8 +4,8 @@ use borrow.Author.Needs.{needs}
 use Rattle.hops.proofs.mark_one.Statement.{statement}
 use Rattle.hops.proofs.mark_one.Tie as tie
 
-bit-of-requires : tie.Need-bit-of-requires
-bit-of-requires c κs = search needs
+only-requires : tie.Need-only-requires
+only-requires c κs = search needs
 
 mul-v : tie.Need-mul-v
 mul-v c = search needs
@@ -38,13 +38,13 @@ same-length : tie.Need-same-length
 same-length c = search needs
 
 returns : tie.Need-returns
-returns c = one-marked _ _ _ _ _ _ _ (c .mark-row .ensures) (c .before .before .before .before .before .before .before .bit-of .ensures) (c .before .before .before .before .before .before .before .before .pre .0) (c .before .before .before .before .before .before .before .before .pre .1 .1)
+returns c = one-marked _ _ _ _ _ _ _ (c .mark-row .ensures) (c .before .before .before .before .before .before .before .only .ensures) (c .before .before .before .before .before .before .before .before .pre .0) (c .before .before .before .before .before .before .before .before .pre .1 .1)
 
 pub mark-one-spec : {M : Type 1} → statement M
 mark-one-spec =
     tie.close
     (tie.spec
-    bit-of-requires
+    only-requires
     mul-v
     slice-copy-out-v
     mul-p

@@ -34,14 +34,14 @@ element-copy-out-tie-2 c = search needs
 tie-requires : tie.Need-tie-requires Inv-loop μ-loop
 tie-requires c κs = search needs
 
-mul-or-word : tie.Need-mul-or-word Inv-loop μ-loop
-mul-or-word c = search needs
+mul-either : tie.Need-mul-either Inv-loop μ-loop
+mul-either c = search needs
 
-element-copy-out-or-word : tie.Need-element-copy-out-or-word Inv-loop μ-loop
-element-copy-out-or-word c = search needs
+element-copy-out-either : tie.Need-element-copy-out-either Inv-loop μ-loop
+element-copy-out-either c = search needs
 
-or-word-requires : tie.Need-or-word-requires Inv-loop μ-loop
-or-word-requires c κs = search needs
+either-requires : tie.Need-either-requires Inv-loop μ-loop
+either-requires c κs = search needs
 
 mul-w : tie.Need-mul-w Inv-loop μ-loop
 mul-w c = search needs
@@ -74,9 +74,9 @@ mark-row-spec =
     mul-tie-2
     element-copy-out-tie-2
     tie-requires
-    mul-or-word
-    element-copy-out-or-word
-    or-word-requires
+    mul-either
+    element-copy-out-either
+    either-requires
     mul-w
     element-write-w
     add-t

@@ -4,8 +4,8 @@ use mathlib.Core.Path.{sym}
 use Rattle.printer.proofs.show.Statement.{statement}
 use Rattle.printer.proofs.show.Tie as tie
 
-text-room-requires : tie.Need-text-room-requires
-text-room-requires c κs = search needs
+report-requires : tie.Need-report-requires
+report-requires c κs = search needs
 
 print-requires : tie.Need-print-requires
 print-requires c κs = search needs
@@ -27,7 +27,7 @@ pub show-spec : {M : Type 1} → statement M
 show-spec =
     tie.close
     (tie.spec
-    text-room-requires
+    report-requires
     print-requires
     array-share-prefix-text
     slice-aggregate-write-all

@@ -12,8 +12,8 @@ least-distance-requires c κs = search needs
 nearest-requires : tie.Need-nearest-requires
 nearest-requires c κs = search needs
 
-first-requires : tie.Need-first-requires
-first-requires c κs = search needs
+lowest-requires : tie.Need-lowest-requires
+lowest-requires c κs = search needs
 
 returns : tie.Need-returns
 returns c = search some-alternate
@@ -28,6 +28,6 @@ alternate-spec =
     element-copy-out-if1
     least-distance-requires
     nearest-requires
-    first-requires
+    lowest-requires
     returns
     returns-2)

@@ -3,11 +3,11 @@ use borrow.Author.Needs.{needs}
 use Rattle.hops.proofs.alternates.near_bit.Statement.{statement}
 use Rattle.hops.proofs.alternates.near_bit.Tie as tie
 
-cast-bit-of : tie.Need-cast-bit-of
-cast-bit-of c = search needs
+cast-only : tie.Need-cast-only
+cast-only c = search needs
 
-bit-of-requires : tie.Need-bit-of-requires
-bit-of-requires c κs = search needs
+only-requires : tie.Need-only-requires
+only-requires c κs = search needs
 
 returns : tie.Need-returns
 returns c = search bit-here
@@ -19,4 +19,4 @@ returns-3 : tie.Need-returns-3
 returns-3 c = search bit-none
 
 pub near-bit-spec : {M : Type 1} → statement M
-near-bit-spec = tie.close (tie.spec cast-bit-of bit-of-requires returns returns-2 returns-3)
+near-bit-spec = tie.close (tie.spec cast-only only-requires returns returns-2 returns-3)

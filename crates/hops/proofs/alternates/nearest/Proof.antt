@@ -25,8 +25,8 @@ distance-at-requires c κs = search needs
 near-bit-requires : tie.Need-near-bit-requires Inv-loop μ-loop
 near-bit-requires c κs = search needs
 
-or-word-requires : tie.Need-or-word-requires Inv-loop μ-loop
-or-word-requires c κs = search needs
+either-requires : tie.Need-either-requires Inv-loop μ-loop
+either-requires c κs = search needs
 
 add-w : tie.Need-add-w Inv-loop μ-loop
 add-w c = search needs
@@ -50,7 +50,7 @@ nearest-spec =
     stands-in-requires
     distance-at-requires
     near-bit-requires
-    or-word-requires
+    either-requires
     add-w
     loop-less
     loop-again
