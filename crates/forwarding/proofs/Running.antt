@@ -30,8 +30,9 @@ use Rattle.rules.proofs.Held.{net-held}
 use Rattle.rules.proofs.Checked.{checked-file, checked-set}
 use Rattle.rules.proofs.Lent.{bytes-long, lent-agree, run-same}
 use Rattle.rules.proofs.Runs.{Within}
-use Rattle.forwarding.specs.Hop.{Judged, on}
-use Rattle.forwarding.specs.Trip.{runAt, journeyOf, RunsAs, runInput, runLent, runVerdict, Ready, Ran}
+use Rattle.hop.specs.Hop.{Judged, on}
+use Rattle.travel.specs.Trip.{runAt, journeyOf, RunsAs}
+use Rattle.forwarding.specs.Runs.{runInput, runLent, runVerdict, Ready, Ran}
 
 -- ---- the run by a set's own tables
 

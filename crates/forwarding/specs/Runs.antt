@@ -1,9 +1,9 @@
--- A run by lent tables, and what it answers and writes.
+-- The entry `run`: its input, what it is lent, its verdict, and what an accepted call answers and leaves.
 use mathlib.Core.Path.{_≡_}
-use mathlib.Core.List.{List, [], _∷_}
+use mathlib.Core.List.{List}
 use Prim.Native.Nat.{ℕ, _≤_, _<_}
 use lib.Dec.{leb}
-use lib.ListN.{length, set}
+use lib.ListN.{length}
 use Rattle.rules.specs.declared.Packet.{Packet}
 use Rattle.rules.specs.declared.Failure.{Failure}
 use Rattle.rules.specs.declared.Journey.{Journey}
@@ -13,34 +13,11 @@ use Rattle.rules.specs.Basics.{need, laid}
 use Rattle.rules.specs.Limits.{tablesLength, trailRoom}
 use Rattle.rules.specs.File.{headerOf, setOf}
 use Rattle.rules.specs.Distance.{tableBytes}
-use Rattle.rules.specs.Forwarding.{Run, faultOf, packet, hops, trail, run}
+use Rattle.rules.specs.Forwarding.{faultOf, packet, trail}
 use Rattle.rules.specs.Judgement.{refuse, andThen, check, needPacket, needSource}
 use Rattle.rules.specs.Report.{runUnder}
 use Rattle.rules.specs.Entries.{RunInput, RunLent}
-use Rattle.forwarding.specs.Hop.{on, tablesAt}
-
-unfoldable pub runAt : List ℕ → List ℕ → Failure → ℕ → Packet → Run
-runAt s tables f most p = run (setOf s) (tablesAt s tables) (on s f) most p
-
-unfoldable pub journeyOf : Run → Journey
-journeyOf r = record { outcome = r .outcome; hops = hops r; topology = r .topology; kind = r .kind }
-
--- the answer and the trail are those of the run
-pub record RunsAs (s tables : List ℕ) (f : Failure) (start : Packet) (most : ℕ) (old : List ℕ) (r : Journey) (new : List ℕ) : Type 0 where
-  pub answer : r ≡ journeyOf (runAt s tables f most start)
-  pub written : new ≡ laid (trail (start .place) (runAt s tables f most start)) old
-
--- a trail with room for so many hops, whose first node is the packet's place
-pub record Begun (start : Packet) (most : ℕ) (t : List ℕ) : Type 0 where
-  pub first : t ≡ laid (start .place ∷ []) t
-  pub room : most < length t
-
--- a trail with one node more
-pub record Visited (t : List ℕ) (at v : ℕ) (t′ : List ℕ) : Type 0 where
-  pub is : t′ ≡ set t at v
-  pub long : length t′ ≡ length t
-
--- ---- the entry `run`
+use Rattle.travel.specs.Trip.{journeyOf}
 
 abbrev pub runInput : List ℕ → ℕ → ℕ → Failure → RunInput
 runInput s u t f = record { file = s; source = u; destination = t; failure = f }
@@ -48,6 +25,7 @@ runInput s u t f = record { file = s; source = u; destination = t; failure = f }
 abbrev pub runLent : List ℕ → List ℕ → RunLent
 runLent tables trail = record { tables = tables; trail = trail }
 
+-- by the lengths of the rooms: 1 to 6, 13, 7 and 8 by topology, 11, 12, 14
 unfoldable pub runVerdict : RunInput → ℕ → ℕ → Verdict
 runVerdict i tables trail =
     andThen (check (i .file))
