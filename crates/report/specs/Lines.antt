@@ -1,22 +1,14 @@
--- What a detecting node sees, its line, and the lines one after the other.
-use mathlib.Core.Path.{_≡_}
+-- The line of a detection, the lines one after the other, and the last line.
 use mathlib.Core.List.{List, [], _∷_, _++_}
-use Prim.Native.Nat.{ℕ, _-_, _*_, _≤_, _<_}
+use Prim.Native.Nat.{ℕ, _+_, _-_, _*_}
 use lib.Dec.{eqb}
-use Rattle.rules.specs.declared.Network.{Network}
-use Rattle.rules.specs.declared.Packet.{Packet}
-use Rattle.rules.specs.declared.Failure.{Failure}
-use Rattle.rules.specs.declared.Verdict.the-variants.{Accepted}
 use Rattle.rules.specs.declared.Kind.{Kind}
-use Rattle.rules.specs.Basics.{if_then_else_, flat, laid}
-use Rattle.rules.specs.File.{Set, headerOf, setOf}
-use Rattle.rules.specs.Distance.{nextHop, tableBytes}
-use Rattle.rules.specs.Forwarding.{hops}
-use Rattle.rules.specs.Judgement.{check}
-use Rattle.rules.specs.Report.{decimal, space, newline, letter, kindOf, packetOf, detection, backupHops, extraHops, detectionLine}
-use Rattle.forwarding.specs.Trip.{runAt}
-use Rattle.report.specs.Text.{field}
-use Rattle.report.specs.declared.seen.Seen.{Seen}
+use Rattle.rules.specs.Basics.{if_then_else_, flat}
+use Rattle.rules.specs.Limits.{largest}
+use Rattle.rules.specs.File.{Set}
+use Rattle.rules.specs.Report.{decimal, space, newline, letter, detectionLine}
+use Rattle.text.specs.Text.{field, numberRoom, fieldRoom, labelledRoom}
+use Rattle.detections.specs.declared.Seen.{Seen}
 
 -- ---- a line in three parts
 
@@ -45,3 +37,40 @@ nodeLines S u = flat (lineFor S u) (S .net .n)
 -- ---- the last line, `detections` and the count, for n nodes
 unfoldable pub lastOf : ℕ → List ℕ
 lastOf n = 100 ∷ 101 ∷ 116 ∷ 101 ∷ 99 ∷ 116 ∷ 105 ∷ 111 ∷ 110 ∷ 115 ∷ 32 ∷ (decimal (n * (n - 1)) ++ newline)
+
+-- ---- how many bytes are allowed for, at most
+
+-- the three parts of a line: its first three fields; the letter, a space and two fields; a field, a number and the newline
+abbrev pub headRoom : ℕ
+headRoom = 3 * fieldRoom
+
+abbrev pub changeRoom : ℕ
+changeRoom = 2 + 2 * fieldRoom
+
+abbrev pub tailRoom : ℕ
+tailRoom = fieldRoom + numberRoom + 1
+
+-- a line
+abbrev pub lineRoom : ℕ
+lineRoom = headRoom + changeRoom + tailRoom
+
+-- a node's lines, and the lines of all nodes
+abbrev pub nodeRoom : ℕ
+nodeRoom = largest .n * lineRoom
+
+abbrev pub linesRoom : ℕ
+linesRoom = largest .n * nodeRoom
+
+-- the header line, which never varies; the last line; the whole text
+abbrev pub headerRoom : ℕ
+headerRoom = 44
+
+abbrev pub lastRoom : ℕ
+lastRoom = labelledRoom + 1
+
+abbrev pub textRoom : ℕ
+textRoom = headerRoom + linesRoom + lastRoom
+
+-- the line of a refusal: two labels with their numbers, and the newline
+abbrev pub refusalRoom : ℕ
+refusalRoom = 2 * labelledRoom + 1
