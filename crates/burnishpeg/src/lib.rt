@@ -1,28 +1,24 @@
 // The entries for C and Rust, by numbers and byte slices (include/burnishpeg.h). Each function promises what its entry does, with
 // the answer packed into one word: a refusal's number and place, or the values of an accepted call. Buffers that one call is
 // given must not overlap: that is the one thing that C has to see to.
+use answerwords::failure_of;
+use answerwords::length_word;
+use answerwords::read_word;
+use answerwords::run_word;
+use answerwords::step_word;
+use answerwords::verdict_word;
+use needs::need_room;
 use report::report;
-use rules::Failure;
-use rules::Journey;
-use rules::Kind;
 use rules::LengthAnswer;
 use rules::Network;
-use rules::Outcome;
 use rules::Packet;
-use rules::ReadAnswer;
-use rules::RunAnswer;
-use rules::Step;
-use rules::StepAnswer;
 use rules::Verdict;
-ghost use mathlib.Core.Path.{_≡_};
-ghost use mathlib.Core.List.{[], _∷_};
-ghost use Prim.Native.Nat.{_≤_, _<_};
+ghost use mathlib.Core.List.{[]};
+ghost use Prim.Native.Nat.{_≤_};
 ghost use lib.ListN.{length, take};
-ghost use Rattle.rules.specs.Basics.{laid};
-ghost use Rattle.rules.specs.Report.{letter};
-ghost use Rattle.rules.specs.Answers.{verdictTells, readTells, lengthTells, outcomeValue, stepValues, stepTells, journeyValues, runTells};
 ghost use Rattle.rules.specs.Entries.{lists, checkEntry, buildEntry, tablesEntry, stepEntry, runEntry, readEntry, writeEntry, reportEntry};
-ghost use Rattle.burnishpeg.specs.Words.{refusedWord, pack, wordOf, failureOf, Answers, byLength, byRead, byStep, byRun, packetAt, Laid};
+ghost use Rattle.answerwords.specs.Words.{failureOf, packetAt, Answers, byLength, byRead, byStep, byRun};
+ghost use Rattle.burnishpeg.specs.Laying.{Inside, Copied, Laid};
 
 // ---- the entries
 
@@ -119,26 +115,21 @@ pub extern "C" fn burnishpeg_write(
 
 // ---- the report into any room
 
-fn text_room() -> [u8; Network::LONGEST_REPORT]
-    ensures { λ r. ⌜ 22875 ≡ length r ⌝ }
+// The first so many bytes of what was made, in the room that is lent; 14 where that is too short.
+fn copied(made: &[u8], long: usize, text: &mut [u8]) -> LengthAnswer
+    requires { ⌜ long ≤ length (now made) ⌝ }
+    ensures { λ r. ⌜ Copied (take long (now (made .entry))) (now (text .entry)) r (now (text .exit)) ⌝ }
 {
-    [0; Network::LONGEST_REPORT]
-}
-
-// The first so many bytes of one buffer at the front of another.
-fn copy_front(from: &[u8], count: usize, to: &mut [u8])
-    requires { ⌜ (count ≤ length (now from)) × (count ≤ length (now to)) ⌝ }
-    ensures { λ _. ⌜ now (to .exit) ≡ laid (take count (now (from .entry))) (now (to .entry)) ⌝ }
-{
-    let mut i = 0;
-    while i < count {
-        to[i] = from[i];
-        i += 1;
+    let room = need_room(long, text.len());
+    match room {
+        Verdict::Accepted => LengthAnswer::Length(bytes::copy(&made[..long], text)),
+        Verdict::Refused { number, place } => LengthAnswer::Refused { number, place },
     }
 }
 
 // The report that was made, in the room that is lent.
 fn lay(answer: LengthAnswer, made: &[u8], text: &mut [u8]) -> LengthAnswer
+    requires { ⌜ Inside answer (now made) ⌝ }
     ensures { λ r. ⌜ Laid answer (now (made .entry)) (now (text .entry)) r (now (text .exit)) ⌝ }
 {
     match answer {
@@ -146,19 +137,7 @@ fn lay(answer: LengthAnswer, made: &[u8], text: &mut [u8]) -> LengthAnswer
             number: _,
             place: _,
         } => answer,
-        LengthAnswer::Length(bytes) => {
-            if text.len() < bytes {
-                return LengthAnswer::Refused {
-                    number: 14,
-                    place: 0,
-                };
-            }
-            if made.len() < bytes {
-                return answer;
-            }
-            copy_front(made, bytes, text);
-            answer
-        }
+        LengthAnswer::Length(long) => copied(made, long, text),
     }
 }
 
@@ -168,6 +147,7 @@ fn lay_text(
     made: &[u8; Network::LONGEST_REPORT],
     text: &mut [u8],
 ) -> LengthAnswer
+    requires { ⌜ Inside answer (now made) ⌝ }
     ensures { λ r. ⌜ Laid answer (now (made .entry)) (now (text .entry)) r (now (text .exit)) ⌝ }
 {
     lay(answer, made, text)
@@ -177,7 +157,7 @@ fn lay_text(
 pub extern "C" fn burnishpeg_report(file: &[u8], text: &mut [u8]) -> u64
     ensures { λ r. ⌜ Answers reportEntry byLength (now (file .entry)) (now (text .entry)) r (now (text .exit)) ⌝ }
 {
-    let mut made = text_room();
+    let mut made = rooms::report();
     let answer = report(file, &mut made);
     length_word(lay_text(answer, &made, text))
 }

@@ -121,6 +121,16 @@ module _ (s : List ℕ) where
           ap length m ∙ length-laid (reportText (setOf s)) old r
       go (Refused number place) e m = ap length m
 
+  -- the bytes of an answer lie in the room
+  pub report-inside : (old mid : List ℕ) (answer : LengthAnswer) (bytes : ℕ) → Promise reportEntry s old answer mid → answer ≡ long.Length bytes → bytes ≤ length mid
+  unfolding reportEntry lengthTells tell
+  report-inside old mid answer bytes P e =
+      let v : andThen (check s) (needRoom (length (reportText (setOf s))) old) ≡ Accepted = tells-accepted _ (length (reportText (setOf s)) ∷ []) (bytes ∷ []) (sym (ap lengthTells e) ∙ P .answer) in
+      let a : accepted (bytes ∷ []) ≡ accepted (length (reportText (setOf s)) ∷ []) = sym (ap lengthTells e) ∙ P .answer ∙ ap (λ (x : Verdict). tell x (length (reportText (setOf s)) ∷ [])) v in
+      let z : bytes ≡ length (reportText (setOf s)) = cc in
+      let r = room-long (length (reportText (setOf s))) old (then-second (check s) (needRoom (length (reportText (setOf s))) old) v) in
+      omega (arith, same-room old mid answer P)
+
   pub printed-of : (old mid new : List ℕ) (answer : LengthAnswer) (r : ℕ) → Promise reportEntry s old answer mid → Says answer mid r new → longest .report ≡ length mid → Printed s old r new
   unfolding reportEntry lengthTells tell onAccept printed
   printed-of old mid new answer r P (it e m) l =
