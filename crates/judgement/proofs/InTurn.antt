@@ -106,8 +106,8 @@ pub ruleset link-turns = (turn-taken, turn-refused, turn-done, ranked-more, link
 -- ---- homes
 
 pub home-number : (s : List ℕ) (h : Network) (v place x y node topology number : ℕ) → number ≡ homeRule h v x y node topology → x ≡ getD s place 0
-    → y ≡ getD s (place + 1) 0 → node ≡ getD s (place + 2) 0 → topology ≡ getD s (place + 3) 0 → place ≡ homePlace h v → number ≡ homeNumber s h v
-unfolding homeRule homeNumber needMark homeNode homeTopology
+    → y ≡ getD s (place + 1) 0 → node ≡ getD s (place + 2) 0 → topology ≡ homeTopology s h v → place ≡ homePlace h v → number ≡ homeNumber s h v
+unfolding homeRule homeNumber needMark homeNode
 home-number s h v place x y node topology number e ex ey en et ep = e ∙ rw (ex, ey, en, et, ep)
 
 pub ruleset home-turns = (turn-taken, turn-refused, turn-done, home-number)
