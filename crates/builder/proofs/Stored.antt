@@ -11,12 +11,12 @@ use lib.ListN.{length, getD}
 use borrow.Author.Tests.{eq-eqb, ne-eqb}
 use Rattle.rules.specs.declared.Network.{Network}
 use Rattle.rules.specs.Basics.{flat}
-use Rattle.rules.specs.Limits.{homeRecords, rowLength, rowWeights, linkPlace, homePlace, rowPlace}
+use Rattle.rules.specs.Limits.{rowWeights, rowLength, homeRecords, linkPlace, homePlace, rowPlace}
 use Rattle.rules.specs.File.{bytes2, headerBytes, homeBytes, endA, endB, linkWeight}
 use Rattle.rules.specs.Isolation.{classBy}
 use Rattle.rules.specs.Building.{onNormal}
-use Rattle.rules.specs.Entries.{setWith}
-use Rattle.rules.proofs.Rows.{length-flat}
+use Rattle.rules.specs.Entries.Write.{setWith}
+use Rattle.rules.proofs.Ground.Rows.{length-flat}
 use Rattle.writer.specs.Parts.{homesOnly, put}
 use Rattle.writer.proofs.Stores.{put-then, Storing, storing-more}
 use Rattle.builder.specs.Stores.{linkCopy, weightIn, filledBytes, filledRow, filledFile}

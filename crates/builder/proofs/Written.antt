@@ -6,13 +6,14 @@ use lib.ListN.{length, getD}
 use Rattle.rules.specs.declared.Network.{Network}
 use Rattle.rules.specs.Basics.{upTo, laid}
 use Rattle.rules.specs.Limits.{rowWeights, homeRecords, fileLength}
-use Rattle.rules.specs.File.{setOf, headerOf, bytes2, headerBytes, linkBytes, homeBytes, rowStart, rowBytes, encode}
-use Rattle.rules.specs.Isolation.{class, home}
-use Rattle.rules.specs.Building.{withHomes, onNormal, highest, filled}
-use Rattle.rules.specs.Entries.{setWith}
-use Rattle.rules.proofs.Rows.{length-upTo, getD-upTo, getD-flat, flat-ext}
-use Rattle.rules.proofs.Held.{isolated-by-home, a-held, b-held, weight-held}
-use Rattle.rules.proofs.Encoded.{encode-long}
+use Rattle.rules.specs.File.{bytes2, headerBytes, linkBytes, homeBytes, rowStart, rowBytes, encode, headerOf, setOf}
+use Rattle.rules.specs.Isolation.{home, class}
+use Rattle.rules.specs.Building.{withHomes, highest, onNormal, filled}
+use Rattle.rules.specs.Entries.Write.{setWith}
+use Rattle.rules.proofs.Ground.Rows.{length-upTo, getD-upTo, getD-flat, flat-ext}
+use Rattle.rules.proofs.File.Encoded.{encode-long}
+use Rattle.rules.proofs.File.SetOfBytes.{a-held, b-held, weight-held}
+use Rattle.rules.proofs.Isolation.HomesAndRows.{isolated-by-home}
 use Rattle.writer.specs.Parts.{homesOnly, put}
 use Rattle.writer.proofs.Stores.{put-laid}
 use Rattle.builder.specs.Stores.{linkCopy, weightIn, filledBytes, filledRow, filledFile}

@@ -13,8 +13,9 @@ use Rattle.rules.specs.Basics.{need, upTo}
 use Rattle.rules.specs.Limits.{restrictedWeight, homeRecords}
 use Rattle.rules.specs.File.{Set}
 use Rattle.rules.specs.Isolation.{home}
-use Rattle.rules.specs.Demands.{AcceptedSet}
-use Rattle.rules.specs.Entries.{lists, setWith}
+use Rattle.rules.specs.Entries.Lists.{lists}
+use Rattle.rules.specs.Entries.Write.{setWith}
+use Rattle.rules.specs.Sets.{AcceptedSet}
 use Rattle.routes.specs.Lanes.{LowRows}
 use Rattle.routes.specs.Passes.{netOf, Wired, settled}
 use Rattle.routes.specs.Costs.{cost, rowOf, costAt, Links, Distances}

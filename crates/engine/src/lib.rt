@@ -8,8 +8,9 @@ ghost use lib.ListN.{length};
 ghost use Rattle.rules.specs.Basics.{upTo, flat};
 ghost use Rattle.rules.specs.Limits.{restrictedWeight, tablesLength};
 ghost use Rattle.rules.specs.Distance.{tableBytes};
-ghost use Rattle.rules.specs.Demands.{AcceptedSet};
-ghost use Rattle.rules.specs.Entries.{lists, setWith};
+ghost use Rattle.rules.specs.Entries.Lists.{lists};
+ghost use Rattle.rules.specs.Entries.Write.{setWith};
+ghost use Rattle.rules.specs.Sets.{AcceptedSet};
 ghost use Rattle.routes.specs.Costs.{cost};
 ghost use Rattle.engine.specs.Stages.{entriesOf, Ready, AlternatesBelow, Work, Added, AddedAt, AllAdded, Roomy, entry};
 

@@ -15,7 +15,7 @@ use Rattle.rules.specs.declared.Verdict.the-variants.{Accepted, Refused}
 use Rattle.rules.specs.Basics.{if_then_else_, need}
 use Rattle.rules.specs.Limits.{tablesLength, mostHops, trailRoom}
 use Rattle.rules.specs.Judgement.{refuse, andThen, needSet, needFailure, needPacket, sourceNumber, needSource}
-use Rattle.rules.proofs.Choices.{need-lt, need-lt-no, need-le, need-le-no, refuse-ok, refuse-no, then-on, then-stop}
+use Rattle.rules.proofs.Ground.Choices.{need-lt, need-lt-no, need-le, need-le-no, refuse-no, refuse-ok, then-on, then-stop}
 use Rattle.needs.specs.Numbers.{packetNumber}
 
 -- ---- one refusal each

@@ -5,17 +5,18 @@ pub mod text; // text.rt: bytes, numbers and letters at a cursor
 pub mod seen; // seen.rt: what a detecting node sees
 pub mod lines; // lines.rt: the lines and the whole text
 
-use tables::tables;
 use housefile::header;
 use lines::write;
 use rules::LengthAnswer;
 use rules::Network;
+use tables::tables;
 use text::labelled;
 use text::put;
 ghost use mathlib.Core.Path.{_≡_};
 ghost use lib.ListN.{length};
 ghost use Rattle.rules.specs.Report.{refusalLine};
-ghost use Rattle.rules.specs.Entries.{Promise, reportEntry};
+ghost use Rattle.rules.specs.Entries.Entry.{Promise};
+ghost use Rattle.rules.specs.Entries.Report.{reportEntry};
 ghost use Rattle.report.specs.Text.{Wrote};
 ghost use Rattle.report.specs.Answer.{Made, Says, Printed};
 

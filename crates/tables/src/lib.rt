@@ -1,6 +1,7 @@
 // The tables of a set's file. `tables` promises, for any bytes and any room, the published tables at the front of the lent room
 // and their length, or 01's refusal with every lent byte as it came: 1 to 6, 13, 7 and 8 by topology, 14. The lists that the
 // tables are made from are local.
+use engine::fill_tables;
 use housefile::header;
 use needs::need_room;
 use needs::tables_length;
@@ -10,7 +11,6 @@ use reader::row_entries;
 use rules::LengthAnswer;
 use rules::Network;
 use rules::Verdict;
-use engine::fill_tables;
 ghost use mathlib.Core.Path.{_≡_};
 ghost use lib.ListN.{length};
 ghost use Rattle.rules.specs.declared.Verdict.the-variants.{Accepted};
@@ -18,7 +18,9 @@ ghost use Rattle.rules.specs.Limits.{tablesLength};
 ghost use Rattle.rules.specs.File.{headerOf, setOf};
 ghost use Rattle.rules.specs.Distance.{tableBytes};
 ghost use Rattle.rules.specs.Judgement.{check};
-ghost use Rattle.rules.specs.Entries.{lists, Promise, tablesEntry};
+ghost use Rattle.rules.specs.Entries.Entry.{Promise};
+ghost use Rattle.rules.specs.Entries.Lists.{lists};
+ghost use Rattle.rules.specs.Entries.Tables.{tablesEntry};
 ghost use Rattle.tables.specs.Parts.{Exact, Wide, Held, tablesVerdict};
 
 // ---- from a file to its tables, by lists

@@ -9,15 +9,16 @@ use Rattle.rules.specs.declared.Network.{Network}
 use Rattle.rules.specs.declared.Verdict.{Verdict}
 use Rattle.rules.specs.declared.Verdict.the-variants.{Accepted, Refused}
 use Rattle.rules.specs.Basics.{need, all}
-use Rattle.rules.specs.Limits.{homeRecords, rowWeights, linkPlace, homePlace, rowPlace}
-use Rattle.rules.specs.File.{Set, encode, rowStart, endA, endB, homeNode, homeTopology, rowTopology, rowWeight}
+use Rattle.rules.specs.Limits.{rowWeights, homeRecords, linkPlace, homePlace, rowPlace}
+use Rattle.rules.specs.File.{Set, rowStart, encode, endA, endB, homeNode, homeTopology, rowTopology, rowWeight}
 use Rattle.rules.specs.Judgement.{refuse, andThen, inTurn, rises, linkNumber, homeNumber, rowWeightFits, rowNumber, records}
-use Rattle.rules.specs.Entries.{lists, setWith}
-use Rattle.rules.proofs.Choices.{refuse-zero, then-on, then-stop, turn-count, turn-each, turn-agree, need-eq}
-use Rattle.rules.proofs.Numbers.{all-ext}
-use Rattle.rules.proofs.Encoded.{link-marked, endA-back, endB-back, linkWeight-back, home-marked, homeNode-back, homeTopology-back, row-marked, rowTopology-back, rowWeight-back}
-use Rattle.rules.proofs.Held.{homes-all}
-use Rattle.rules.proofs.Records.{mark-on, link-meets}
+use Rattle.rules.specs.Entries.Lists.{lists}
+use Rattle.rules.specs.Entries.Write.{setWith}
+use Rattle.rules.proofs.Ground.Choices.{need-eq, refuse-zero, then-on, then-stop, turn-each, turn-agree, turn-count}
+use Rattle.rules.proofs.Ground.Numbers.{all-ext}
+use Rattle.rules.proofs.File.Encoded.{link-marked, endA-back, endB-back, linkWeight-back, home-marked, homeNode-back, homeTopology-back, row-marked, rowTopology-back, rowWeight-back}
+use Rattle.rules.proofs.File.Records.{mark-on, link-meets}
+use Rattle.rules.proofs.Isolation.HomesAndRows.{homes-all}
 use Rattle.housefile.specs.Rules.{linkRule, homeRule, weightRule, judged, homesThenRows}
 use Rattle.housefile.proofs.InTurn.{turn-taken, turn-refused, Ranked, ranked-more, link-number, home-number, fits-is, records-on, records-stop}
 use Rattle.writer.specs.Parts.{linksOnly, homesOnly, backupOnly, EndsInside, backupVerdict}

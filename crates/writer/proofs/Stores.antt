@@ -9,11 +9,12 @@ use lib.ListN.{length, getD, set, drop, length-append}
 use lib.Seq.{sets, length-sets, sets-eq, set-out}
 use Rattle.rules.specs.declared.Network.{Network}
 use Rattle.rules.specs.Basics.{flat, laid}
-use Rattle.rules.specs.Limits.{homeRecords, rowWeights, rowLength, linkPlace, homePlace, rowPlace}
+use Rattle.rules.specs.Limits.{rowWeights, rowLength, homeRecords, linkPlace, homePlace, rowPlace}
 use Rattle.rules.specs.File.{Set, bytes2, headerBytes, linkBytes, homeBytes, rowStart, rowBytes, encode}
-use Rattle.rules.specs.Entries.{lists, setWith}
-use Rattle.rules.proofs.Rows.{length-flat}
-use Rattle.rules.proofs.Encoded.{header-long, row-long, links-long, homes-long}
+use Rattle.rules.specs.Entries.Lists.{lists}
+use Rattle.rules.specs.Entries.Write.{setWith}
+use Rattle.rules.proofs.Ground.Rows.{length-flat}
+use Rattle.rules.proofs.File.Encoded.{row-long, header-long, links-long, homes-long}
 use Rattle.housefile.proofs.Places.{product-fits, row-near}
 use Rattle.writer.specs.Parts.{homesOnly, rowsOnly, linkRecord, weightBytes, put}
 

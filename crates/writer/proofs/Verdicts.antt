@@ -12,13 +12,15 @@ use Rattle.rules.specs.declared.Verdict.the-variants.{Accepted, Refused}
 use Rattle.rules.specs.declared.LengthAnswer.the-variants as answer
 use Rattle.rules.specs.Basics.{need, laid}
 use Rattle.rules.specs.Limits.{needCounts, homeRecords, fileLength}
-use Rattle.rules.specs.File.{Set, encode, rowStart, headerOf}
+use Rattle.rules.specs.File.{Set, rowStart, encode, headerOf}
 use Rattle.rules.specs.Judgement.{refuse, andThen, headerNumber, records, judge, needRoom}
 use Rattle.rules.specs.Answers.{tell, lengthTells}
-use Rattle.rules.specs.Entries.{Promise, onAccept, Lists, lists, needLists, setWith, writeEntry}
-use Rattle.rules.proofs.Choices.{need-ok, refuse-ok, refuse-no, refuse-zero, then-ok, then-no, then-second}
-use Rattle.rules.proofs.Encoded.{encode-long, header-back, header-marked}
-use Rattle.rules.proofs.Records.{HeaderMeets, counts-ok, header-zero}
+use Rattle.rules.specs.Entries.Entry.{onAccept, Promise}
+use Rattle.rules.specs.Entries.Lists.{Lists, lists, needLists}
+use Rattle.rules.specs.Entries.Write.{setWith, writeEntry}
+use Rattle.rules.proofs.Ground.Choices.{need-ok, refuse-no, refuse-ok, refuse-zero, then-ok, then-no, then-second}
+use Rattle.rules.proofs.File.Encoded.{encode-long, header-back, header-marked}
+use Rattle.rules.proofs.File.Records.{counts-ok, HeaderMeets, header-zero}
 use Rattle.housefile.specs.Rules.{listsRule}
 use Rattle.writer.specs.Parts.{recordsThenRoom, writeVerdict, put}
 use Rattle.writer.proofs.Stores.{put-laid}

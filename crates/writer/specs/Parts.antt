@@ -10,8 +10,9 @@ use Rattle.rules.specs.Basics.{need}
 use Rattle.rules.specs.Limits.{needCounts, homeRecords, homePlace, rowPlace, fileLength}
 use Rattle.rules.specs.File.{Set, bytes2, encode}
 use Rattle.rules.specs.Judgement.{refuse, andThen, inTurn, homeNumber, rowNumber, records, judge}
+use Rattle.rules.specs.Entries.Lists.{Lists, lists, needLists}
+use Rattle.rules.specs.Entries.Write.{setWith}
 use Rattle.housefile.specs.Rules.{judged}
-use Rattle.rules.specs.Entries.{Lists, lists, needLists, setWith}
 
 -- ---- a record's bytes depend on some of the lists alone: the sets that have these and no others
 

@@ -10,7 +10,8 @@ ghost use Rattle.rules.specs.Basics.{need, all};
 ghost use Rattle.rules.specs.Limits.{homeRecords, linkPlace, homePlace, rowPlace};
 ghost use Rattle.rules.specs.File.{encode};
 ghost use Rattle.rules.specs.Judgement.{inTurn, linkNumber, homeNumber, rowWeightFits, rowNumber, records};
-ghost use Rattle.rules.specs.Entries.{lists, setWith};
+ghost use Rattle.rules.specs.Entries.Lists.{lists};
+ghost use Rattle.rules.specs.Entries.Write.{setWith};
 ghost use Rattle.housefile.specs.Rules.{judged};
 ghost use Rattle.writer.specs.Parts.{linksOnly, homesOnly, backupOnly, EndsInside, backupVerdict};
 

@@ -13,7 +13,9 @@ use rules::LengthAnswer;
 use rules::Network;
 use rules::Verdict;
 ghost use mathlib.Core.Path.{_≡_};
-ghost use Rattle.rules.specs.Entries.{Promise, lists, writeEntry};
+ghost use Rattle.rules.specs.Entries.Entry.{Promise};
+ghost use Rattle.rules.specs.Entries.Lists.{lists};
+ghost use Rattle.rules.specs.Entries.Write.{writeEntry};
 ghost use Rattle.writer.specs.Parts.{recordsThenRoom, writeVerdict};
 
 // The records, then the room.

@@ -8,7 +8,8 @@ ghost use Prim.Native.Nat.{_<_};
 ghost use Rattle.rules.specs.Basics.{flat};
 ghost use Rattle.rules.specs.Limits.{homeRecords, linkPlace, homePlace, rowPlace};
 ghost use Rattle.rules.specs.File.{bytes2, headerBytes, homeBytes, rowBytes, encode};
-ghost use Rattle.rules.specs.Entries.{lists, setWith};
+ghost use Rattle.rules.specs.Entries.Lists.{lists};
+ghost use Rattle.rules.specs.Entries.Write.{setWith};
 ghost use Rattle.writer.specs.Parts.{homesOnly, rowsOnly, linkRecord, weightBytes, put};
 
 // ---- bytes

@@ -1,5 +1,5 @@
 use Rattle.builder.proofs.Answers.{input-on}
-use Rattle.rules.proofs.Choices.{then-stop}
+use Rattle.rules.proofs.Ground.Choices.{then-stop}
 use borrow.Author.Needs.{needs}
 use Rattle.builder.proofs.input_verdict.Statement.{statement}
 use Rattle.builder.proofs.input_verdict.Tie as tie

@@ -1,4 +1,4 @@
-use Rattle.rules.proofs.Rows.{past}
+use Rattle.rules.proofs.Ground.Rows.{past}
 use borrow.Author.Needs.{needs}
 use Rattle.checker.proofs.word_at.Statement.{statement}
 use Rattle.checker.proofs.word_at.Tie as tie

@@ -1,5 +1,6 @@
 use borrow.Author.Needs.{needs}
-use Rattle.rules.specs.Entries.{lists, setWith}
+use Rattle.rules.specs.Entries.Lists.{lists}
+use Rattle.rules.specs.Entries.Write.{setWith}
 use lib.ListN.{length}
 use Rattle.engine.proofs.Whole.{at-fits, square-fits, stage-alternates, stage-done, stage-more, stage-none, turn-fits, turn-room, work-on}
 use mathlib.Core.Path.{_≡_}

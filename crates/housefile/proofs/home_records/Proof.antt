@@ -1,6 +1,6 @@
 use native.Mathlib.Omega.{arith}
 use borrow.Author.Needs.{needs}
-use Rattle.rules.proofs.Choices.{numbers}
+use Rattle.rules.proofs.Ground.Choices.{numbers}
 use Rattle.rules.specs.Limits.{homeRecords}
 use Rattle.housefile.proofs.home_records.Statement.{statement}
 use Rattle.housefile.proofs.home_records.Tie as tie

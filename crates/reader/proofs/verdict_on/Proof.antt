@@ -1,5 +1,5 @@
 use borrow.Author.Needs.{needs}
-use Rattle.rules.proofs.Choices.{turns}
+use Rattle.rules.proofs.Ground.Choices.{turns}
 use Rattle.reader.specs.Reading.{readVerdict}
 use Rattle.reader.proofs.verdict_on.Statement.{statement}
 use Rattle.reader.proofs.verdict_on.Tie as tie

@@ -1,4 +1,4 @@
-use Rattle.rules.proofs.Choices.{numbers}
+use Rattle.rules.proofs.Ground.Choices.{numbers}
 use Rattle.rules.specs.Limits.{needCounts}
 use Rattle.housefile.proofs.InTurn.{need-two-bytes}
 use Rattle.housefile.proofs.rule.counts.Statement.{statement}

@@ -1,4 +1,4 @@
-use Rattle.rules.proofs.Choices.{numbers}
+use Rattle.rules.proofs.Ground.Choices.{numbers}
 use Rattle.housefile.specs.Rules.{headerRule}
 use Rattle.housefile.proofs.rule.header.Statement.{statement}
 use Rattle.housefile.proofs.rule.header.Tie as tie

@@ -1,4 +1,4 @@
-use Rattle.rules.proofs.Choices.{numbers}
+use Rattle.rules.proofs.Ground.Choices.{numbers}
 use Rattle.housefile.specs.Rules.{homeRule}
 use Rattle.housefile.proofs.rule.home.Statement.{statement}
 use Rattle.housefile.proofs.rule.home.Tie as tie

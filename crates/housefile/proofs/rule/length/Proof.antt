@@ -1,4 +1,4 @@
-use Rattle.rules.proofs.Choices.{numbers}
+use Rattle.rules.proofs.Ground.Choices.{numbers}
 use Rattle.housefile.proofs.rule.length.Statement.{statement}
 use Rattle.housefile.proofs.rule.length.Tie as tie
 

@@ -1,5 +1,5 @@
 use borrow.Author.Needs.{needs}
-use Rattle.rules.proofs.Choices.{numbers}
+use Rattle.rules.proofs.Ground.Choices.{numbers}
 use Rattle.housefile.specs.Rules.{listsRule}
 use Rattle.housefile.proofs.rule.lists.Statement.{statement}
 use Rattle.housefile.proofs.rule.lists.Tie as tie

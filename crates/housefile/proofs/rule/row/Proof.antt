@@ -1,4 +1,4 @@
-use Rattle.rules.proofs.Choices.{numbers}
+use Rattle.rules.proofs.Ground.Choices.{numbers}
 use Rattle.housefile.specs.Rules.{rowRule}
 use Rattle.housefile.proofs.rule.row.Statement.{statement}
 use Rattle.housefile.proofs.rule.row.Tie as tie

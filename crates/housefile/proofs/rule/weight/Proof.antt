@@ -1,4 +1,4 @@
-use Rattle.rules.proofs.Choices.{numbers}
+use Rattle.rules.proofs.Ground.Choices.{numbers}
 use Rattle.housefile.proofs.InTurn.{weight-first, weight-normal, weight-second}
 use Rattle.housefile.proofs.rule.weight.Statement.{statement}
 use Rattle.housefile.proofs.rule.weight.Tie as tie

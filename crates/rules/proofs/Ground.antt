@@ -1,0 +1,5 @@
+-- Laws of the words that are not 01's: tests in order, numbers below n, lists by index, and square tables as bytes.
+pub mod Choices
+pub mod Numbers
+pub mod Rows
+pub mod Square
