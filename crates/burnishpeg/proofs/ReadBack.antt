@@ -21,8 +21,8 @@ use Rattle.rules.specs.Entries.Step.{stepEntry}
 use Rattle.rules.specs.Entries.Run.{runEntry}
 use Rattle.rules.specs.Entries.Report.{reportEntry}
 use Rattle.rules.specs.Demands.One.{Numbered}
-use Rattle.rules.proofs.Refusals.Numbered.{longest-is, read-numbered, write-numbered, check-numbered, build-numbered, tables-numbered, step-numbered, run-numbered, report-numbered}
 use Rattle.rules.proofs.Entries.Values.{Below, read-below, write-below, check-below, build-below, tables-below, report-below, step-below, run-below}
+use Rattle.rules.proofs.Refusals.Numbered.{longest-is, read-numbered, write-numbered, check-numbered, build-numbered, tables-numbered, step-numbered, run-numbered, report-numbered}
 use Rattle.burnishpeg.specs.Words.{refusedWord, pack, wordOf, byLength, byRead, byStep, byRun, refusing, numberIn, placeIn, unpack, toldBy, ReadFromWord, EveryWord}
 
 -- ---- values

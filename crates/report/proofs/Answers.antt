@@ -25,11 +25,11 @@ use Rattle.rules.proofs.Ground.Choices.{then-ok, then-no, then-first, then-seco
 use Rattle.rules.proofs.Ground.Rows.{length-laid}
 use Rattle.rules.proofs.File.SetOfBytes.{net-held}
 use Rattle.rules.proofs.File.Checked.{checked-set}
-use Rattle.rules.proofs.Refusals.Needs.{room-ok, room-long}
 use Rattle.rules.proofs.Report.TextLength.{report-longest}
 use Rattle.rules.proofs.Entries.Answering.{tells-accepted}
 use Rattle.rules.proofs.Entries.Determined.{tells-refused}
 use Rattle.rules.proofs.Entries.Values.{longest-tables}
+use Rattle.rules.proofs.Refusals.Needs.{room-ok, room-long}
 use Rattle.report.specs.Text.{Wrote}
 use Rattle.report.specs.Lines.{Ready}
 use Rattle.report.specs.Answer.{Made, Says, it, line, Printed}

@@ -2,6 +2,5 @@
 pub mod Rounds
 pub mod Distances
 pub mod Reach
-pub mod RestrictedWeight
 pub mod Transit
 pub mod NextHops

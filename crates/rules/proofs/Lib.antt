@@ -5,8 +5,8 @@ pub mod Isolation
 pub mod Distance
 pub mod Forwarding
 pub mod Building
-pub mod Refusals
 pub mod Report
 pub mod Entries
+pub mod Refusals
 pub mod Demands
 pub mod Examples

@@ -6,9 +6,9 @@ use mathlib.Core.List.{List}
 use Prim.Native.Nat.{ℕ, suc, _*_, _≤_, _<_}
 use lib.ListN.{length, getD}
 use Rattle.rules.specs.declared.Network.{Network}
-use Rattle.rules.specs.Limits.{rowWeights, homeRecords}
+use Rattle.rules.specs.Limits.{homeRecords, rowWeights}
 use Rattle.rules.specs.File.{Set, encode}
-use Rattle.rules.specs.Isolation.{neighbours, home, isolated, backbone, Normal, class, rowInForce, normalHop}
+use Rattle.rules.specs.Isolation.{neighbours, home, isolated, backbone, class, Normal, rowInForce, normalHop}
 
 -- ---- the rules of 01's 'The file'
 

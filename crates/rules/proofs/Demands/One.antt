@@ -11,10 +11,10 @@ use Rattle.rules.specs.Entries.Run.{runOf, runEntry}
 use Rattle.rules.specs.Entries.Report.{reportEntry}
 use Rattle.rules.specs.Demands.One.{noLengths, itsLength, listLengths, runLengths, Demand1}
 use Rattle.rules.specs.Refusals.{RefusalsSaySo}
-use Rattle.rules.proofs.Refusals.Refusing.{refusals-say-so}
-use Rattle.rules.proofs.Refusals.Numbered.{read-numbered, write-numbered, check-numbered, build-numbered, tables-numbered, step-numbered, run-numbered, report-numbered}
 use Rattle.rules.proofs.Entries.Determined.{takes-every-input, verdict-one, read-one, length-one, step-one, run-one, length-says, read-says, verdict-says, step-says, run-says}
 use Rattle.rules.proofs.Entries.LengthsKept.{read-kept, write-kept, build-kept, tables-kept, report-kept, run-kept}
+use Rattle.rules.proofs.Refusals.Refusing.{refusals-say-so}
+use Rattle.rules.proofs.Refusals.Numbered.{read-numbered, write-numbered, check-numbered, build-numbered, tables-numbered, step-numbered, run-numbered, report-numbered}
 
 pub demand-1 : Demand1
 unfolding readEntry writeEntry checkEntry buildEntry tablesEntry stepEntry stepOf runEntry reportEntry

@@ -25,8 +25,8 @@ use Rattle.rules.proofs.Building.FirstFit.{succeeds, fitted-removable}
 use Rattle.rules.proofs.Building.BuiltAccepted.{built-accepted}
 use Rattle.rules.proofs.Building.BuiltBy.{built-by, built-topologies, built-net}
 use Rattle.rules.proofs.Building.BuildNumber.{fits-needs, zero-exactly}
-use Rattle.rules.proofs.Refusals.Needs.{room-ok, room-long, graph-needed, graph-given, cap-needed, cap-given}
 use Rattle.rules.proofs.Entries.Answering.{was-accepted, told, left, accepts, front-laid, length-values, length-is}
+use Rattle.rules.proofs.Refusals.Needs.{room-ok, room-long, graph-needed, graph-given, cap-needed, cap-given}
 
 -- ---- 9 and 10
 

@@ -14,8 +14,8 @@ use Rattle.rules.specs.Demands.Two.{LongLists, ReadMeets, ReadGives}
 use Rattle.rules.proofs.Ground.Choices.{then-ok, then-first, then-second}
 use Rattle.rules.proofs.File.SetOfBytes.{net-held}
 use Rattle.rules.proofs.File.FileOf.{file-judged, file-header, file-set, judged-file}
-use Rattle.rules.proofs.Refusals.Needs.{lists-long, long-lists}
 use Rattle.rules.proofs.Entries.Answering.{told, left, accepts, front-laid, read-values, read-is}
+use Rattle.rules.proofs.Refusals.Needs.{lists-long, long-lists}
 
 read-meets : (S : Set) (s : List ℕ) (d : Lists) → ReadMeets S s d → readEntry .verdict s d ≡ Accepted
 unfolding readEntry

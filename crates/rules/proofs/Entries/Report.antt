@@ -16,9 +16,9 @@ use Rattle.rules.specs.Demands.Form.{AcceptsExactly, ThenGives, IsLength
 use Rattle.rules.specs.Demands.Detections.{ReportMeets, ReportGives, ReportFits}
 use Rattle.rules.proofs.Ground.Choices.{then-both, then-first, then-second}
 use Rattle.rules.proofs.File.AcceptedFile.{file-checked, its-set, accepted-file}
-use Rattle.rules.proofs.Refusals.Needs.{room-ok, room-long}
 use Rattle.rules.proofs.Report.TextLength.{report-longest}
 use Rattle.rules.proofs.Entries.Answering.{told, left, accepts, front-laid, length-values, length-is}
+use Rattle.rules.proofs.Refusals.Needs.{room-ok, room-long}
 
 report-meets : (S : Set) (s lent : List ℕ) → ReportMeets S s lent → reportEntry .verdict s lent ≡ Accepted
 unfolding reportEntry

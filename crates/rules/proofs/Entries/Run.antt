@@ -32,9 +32,9 @@ use Rattle.rules.proofs.File.AcceptedFile.{file-checked, its-set, accep
 use Rattle.rules.proofs.Forwarding.Runs.{starts}
 use Rattle.rules.proofs.Forwarding.Delivery.{delivery}
 use Rattle.rules.proofs.Forwarding.LentTables.{lent-agree, run-same}
-use Rattle.rules.proofs.Refusals.Needs.{room-ok, room-long, packet-needed, packet-given, source-needed, source-given, standing-up}
 use Rattle.rules.proofs.Entries.Answering.{told, left, accepts, front-laid, run-values, journeyOf, run-is}
 use Rattle.rules.proofs.Entries.Tables.{tables-meets}
+use Rattle.rules.proofs.Refusals.Needs.{room-ok, room-long, packet-needed, packet-given, source-needed, source-given, standing-up}
 
 -- one failed node is nodes of one home
 tolerated : (S : Set) (f : Failure) → Tolerated S (faultOf f)

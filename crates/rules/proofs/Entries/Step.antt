@@ -19,8 +19,8 @@ use Rattle.rules.specs.Demands.Form.{AcceptsExactly, ThenGives, IsTaken}
 use Rattle.rules.specs.Demands.Step.{LooksUp, StepMeets, StepGives}
 use Rattle.rules.proofs.Ground.Choices.{refuse-ok, refuse-zero, then-both, then-first, then-second}
 use Rattle.rules.proofs.File.FileOf.{file-judged, file-set, judged-file}
-use Rattle.rules.proofs.Refusals.Needs.{room-ok, room-long, set-needed, set-given, packet-needed, packet-given, source-needed, source-given}
 use Rattle.rules.proofs.Entries.Answering.{told, accepts, step-values, step-is}
+use Rattle.rules.proofs.Refusals.Needs.{room-ok, room-long, set-needed, set-given, packet-needed, packet-given, source-needed, source-given}
 
 -- ---- 15: the tests in their order
 

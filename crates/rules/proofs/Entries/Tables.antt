@@ -28,8 +28,8 @@ use Rattle.rules.proofs.Ground.Square.{tables-long, inside, entry-at, l
 use Rattle.rules.proofs.File.SetOfBytes.{net-held}
 use Rattle.rules.proofs.File.AcceptedFile.{file-checked, its-header, its-set, accepted-file}
 use Rattle.rules.proofs.Distance.NextHops.{least-next-hops, nearest-alternates}
-use Rattle.rules.proofs.Refusals.Needs.{room-ok, room-long}
 use Rattle.rules.proofs.Entries.Answering.{told, left, accepts, length-values, length-is}
+use Rattle.rules.proofs.Refusals.Needs.{room-ok, room-long}
 
 pub tables-meets : (S : Set) (s lent : List ℕ) → TablesMeet S s lent → tablesEntry .verdict s lent ≡ Accepted
 unfolding tablesEntry

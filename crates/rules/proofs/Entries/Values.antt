@@ -46,9 +46,9 @@ use Rattle.rules.proofs.Isolation.HomesAndRows.{homes-all}
 use Rattle.rules.proofs.Isolation.Links.{neighbours-below}
 use Rattle.rules.proofs.Forwarding.Runs.{Within, Advance, Good, good-step, always-bounded}
 use Rattle.rules.proofs.Building.BuiltAccepted.{built-accepted}
-use Rattle.rules.proofs.Refusals.Needs.{set-needed, packet-needed}
 use Rattle.rules.proofs.Report.TextLength.{report-longest}
 use Rattle.rules.proofs.Entries.Build.{asked}
+use Rattle.rules.proofs.Refusals.Needs.{set-needed, packet-needed}
 
 -- as many values as ranges, each below its own
 unfoldable pub Below : List ℕ → List ℕ → Type 0

@@ -19,8 +19,8 @@ use Rattle.rules.proofs.Ground.Rows.{upTo-take}
 use Rattle.rules.proofs.File.Records.{counts-on}
 use Rattle.rules.proofs.File.WithinCounts.{front, within, same-set, encode-within, set-of-encode}
 use Rattle.rules.proofs.File.Accepted.{judged, encode-accepted}
-use Rattle.rules.proofs.Refusals.Needs.{lists-long, long-lists, room-ok, room-long}
 use Rattle.rules.proofs.Entries.Answering.{told, left, accepts, front-laid, length-values, length-is}
+use Rattle.rules.proofs.Refusals.Needs.{lists-long, long-lists, room-ok, room-long}
 
 -- a set within its counts is its lists, cut to them
 within-cut : (h : Network) (d : Lists) → LongLists h d → within (setWith h d) ≡ cutTo h d
