@@ -1,14 +1,15 @@
 -- An accepted set has at least as many links as nodes: each node has two links, and each link two ends. So a path of normal links weighs less than one
--- restricted link.
+-- restricted link, which outweighs all links together.
 use mathlib.Core.Path.{_≡_, refl, sym}
 use mathlib.Core.Logic.{inl, inr}
 use mathlib.Core.Bool.{Bool, true, false, _||_}
 use Prim.Native.Nat.{ℕ, zero, suc, _+_, _-_, _*_, _≤_, _<_}
-use native.Mathlib.Nat.{mul-le-mul-right}
+use native.Mathlib.Nat.{mul-le-mul, mul-le-mul-right}
 use native.Mathlib.Omega.{arith}
 use lib.Dec.{eqb}
 use lib.ListN.{getD}
 use borrow.Author.Tests.{eqb-true, eq-eqb, ne-eqb}
+use Rattle.rules.specs.declared.Network.{Network}
 use Rattle.rules.specs.Basics.{count}
 use Rattle.rules.specs.Limits.{restrictedWeight}
 use Rattle.rules.specs.File.{Set}
@@ -80,6 +81,13 @@ touches S u l = eqb u (getD (S .a) l 0) || eqb u (getD (S .b) l 0)
 touch : (S : Set) (u w l : ℕ) → Ends S l u w → touches S u l ≡ true
 touch S u w l (inl e) = or-left (eqb u (getD (S .a) l 0)) (eqb u (getD (S .b) l 0)) (eq-eqb u (getD (S .a) l 0) (sym (e .0)))
 touch S u w l (inr e) = or-right (eqb u (getD (S .a) l 0)) (eqb u (getD (S .b) l 0)) (eq-eqb u (getD (S .b) l 0) (sym (e .1)))
+
+-- a restricted link outweighs any path that passes each link once at most: all links together, each at wmax
+pub restricted-outweighs : (h : Network) → 1 ≤ h .m → 1 ≤ h .wmax → h .m * h .wmax < restrictedWeight h
+unfolding restrictedWeight
+restricted-outweighs h m w =
+    let some : 1 * 1 ≤ h .m * h .wmax = mul-le-mul {n₂ = h .m} {m₂ = h .wmax} m w in
+    omega arith
 
 module _ (S : Set) (A : AcceptedSet S) where
   two-ends : (u : ℕ) → u < S .net .n → 2 ≤ count (touches S u) (S .net .m)
