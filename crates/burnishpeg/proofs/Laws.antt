@@ -25,10 +25,18 @@ use Rattle.rules.specs.declared.StepAnswer.the-variants as stepped
 use Rattle.rules.specs.declared.RunAnswer.{RunAnswer}
 use Rattle.rules.specs.declared.RunAnswer.the-variants as ran
 use Rattle.rules.specs.Basics.{if_then_else_}
-use Rattle.rules.specs.Report.{letter}
+use Rattle.rules.specs.Forwarding.{letter}
 use Rattle.rules.specs.Answers.{verdictTells, headerValues, readTells, lengthTells, outcomeValue, packetValues, stepValues, stepTells, journeyValues, runTells}
-use Rattle.rules.specs.Entries.{Entry, Promise, Lists, BuildInput, WriteInput, StepInput, RunInput, RunLent, checkEntry, buildEntry, tablesEntry, writeEntry, readEntry, stepEntry, runEntry}
-use Rattle.rules.proofs.ChangeKinds.{letter-none, letter-t, letter-s, letter-d}
+use Rattle.rules.specs.Entries.Entry.{Entry, Promise}
+use Rattle.rules.specs.Entries.Lists.{Lists}
+use Rattle.rules.specs.Entries.Read.{readEntry}
+use Rattle.rules.specs.Entries.Write.{WriteInput, writeEntry}
+use Rattle.rules.specs.Entries.Check.{checkEntry}
+use Rattle.rules.specs.Entries.Build.{BuildInput, buildEntry}
+use Rattle.rules.specs.Entries.Tables.{tablesEntry}
+use Rattle.rules.specs.Entries.Step.{StepInput, stepEntry}
+use Rattle.rules.specs.Entries.Run.{RunInput, RunLent, runEntry}
+use Rattle.rules.proofs.Forwarding.ChangeKinds.{letter-none, letter-t, letter-s, letter-d}
 use Rattle.burnishpeg.specs.Words.{refusedWord, pack, wordOf, byLength, byRead, byStep, byRun, failureOf, Answers}
 
 -- ---- words

@@ -18,8 +18,9 @@ use Rattle.rules.specs.File.{setOf}
 use Rattle.rules.specs.Judgement.{refuse, andThen, check, needRoom}
 use Rattle.rules.specs.Report.{reportText}
 use Rattle.rules.specs.Answers.{accepted, refused, tell, lengthTells}
-use Rattle.rules.specs.Entries.{Promise, onAccept, reportEntry}
-use Rattle.rules.proofs.Rows.{laid-front, laid-more}
+use Rattle.rules.specs.Entries.Entry.{onAccept, Promise}
+use Rattle.rules.specs.Entries.Report.{reportEntry}
+use Rattle.rules.proofs.Ground.Rows.{laid-front, laid-more}
 use Rattle.report.proofs.Answers.{report-verdict}
 use Rattle.burnishpeg.specs.Words.{wordOf, byLength, Answers, Laid}
 

@@ -19,9 +19,17 @@ ghost use mathlib.Core.List.{[], _∷_};
 ghost use Prim.Native.Nat.{_≤_, _<_};
 ghost use lib.ListN.{length, take};
 ghost use Rattle.rules.specs.Basics.{laid};
-ghost use Rattle.rules.specs.Report.{letter};
+ghost use Rattle.rules.specs.Forwarding.{letter};
 ghost use Rattle.rules.specs.Answers.{verdictTells, readTells, lengthTells, outcomeValue, stepValues, stepTells, journeyValues, runTells};
-ghost use Rattle.rules.specs.Entries.{lists, checkEntry, buildEntry, tablesEntry, stepEntry, runEntry, readEntry, writeEntry, reportEntry};
+ghost use Rattle.rules.specs.Entries.Lists.{lists};
+ghost use Rattle.rules.specs.Entries.Read.{readEntry};
+ghost use Rattle.rules.specs.Entries.Write.{writeEntry};
+ghost use Rattle.rules.specs.Entries.Check.{checkEntry};
+ghost use Rattle.rules.specs.Entries.Build.{buildEntry};
+ghost use Rattle.rules.specs.Entries.Tables.{tablesEntry};
+ghost use Rattle.rules.specs.Entries.Step.{stepEntry};
+ghost use Rattle.rules.specs.Entries.Run.{runEntry};
+ghost use Rattle.rules.specs.Entries.Report.{reportEntry};
 ghost use Rattle.burnishpeg.specs.Words.{refusedWord, pack, wordOf, failureOf, Answers, byLength, byRead, byStep, byRun, packetAt, Laid};
 
 // ---- answers as words

@@ -14,11 +14,11 @@ use Rattle.rules.specs.declared.Verdict.{Verdict}
 use Rattle.rules.specs.declared.Verdict.the-variants.{Accepted}
 use Rattle.rules.specs.Basics.{if_then_else_}
 use Rattle.rules.specs.Limits.{tablesLength}
-use Rattle.rules.specs.Judgement.{refuse, andThen, judge, needSet, needPacket, needSource, needRoom}
-use Rattle.rules.specs.Entries.{StepInput}
-use Rattle.rules.specs.File.{headerOf, setOf, endA, endB}
+use Rattle.rules.specs.File.{headerOf, endA, endB, setOf}
 use Rattle.rules.specs.Isolation.{home}
-use Rattle.rules.specs.Forwarding.{Tables, faultOf, up, lentTables, step, changeNumber, lookupNumber}
+use Rattle.rules.specs.Forwarding.{faultOf, up, Tables, lentTables, step, changeNumber, lookupNumber}
+use Rattle.rules.specs.Judgement.{refuse, andThen, judge, needSet, needPacket, needSource, needRoom}
+use Rattle.rules.specs.Entries.Step.{StepInput}
 
 -- a file that none of refusals 1 to 6 applies to, and its header. Its links rise, so at most one joins two nodes
 pub record Judged (s : List ℕ) (net : Network) : Type 0 where

@@ -13,10 +13,9 @@ use Rattle.rules.specs.Basics.{need, laid}
 use Rattle.rules.specs.Limits.{tablesLength, trailRoom}
 use Rattle.rules.specs.File.{headerOf, setOf}
 use Rattle.rules.specs.Distance.{tableBytes}
-use Rattle.rules.specs.Forwarding.{Run, faultOf, packet, hops, trail, run}
+use Rattle.rules.specs.Forwarding.{faultOf, packet, Run, hops, trail, run, runUnder}
 use Rattle.rules.specs.Judgement.{refuse, andThen, check, needPacket, needSource}
-use Rattle.rules.specs.Report.{runUnder}
-use Rattle.rules.specs.Entries.{RunInput, RunLent}
+use Rattle.rules.specs.Entries.Run.{RunInput, RunLent}
 use Rattle.forwarding.specs.Hop.{on, tablesAt}
 
 unfoldable pub runAt : List ℕ → List ℕ → Failure → ℕ → Packet → Run

@@ -27,7 +27,9 @@ use rules::Verdict;
 use travel::travel;
 ghost use mathlib.Core.Path.{_≡_};
 ghost use Rattle.rules.specs.File.{headerOf};
-ghost use Rattle.rules.specs.Entries.{Promise, stepEntry, runEntry};
+ghost use Rattle.rules.specs.Entries.Entry.{Promise};
+ghost use Rattle.rules.specs.Entries.Step.{stepEntry};
+ghost use Rattle.rules.specs.Entries.Run.{runEntry};
 ghost use Rattle.forwarding.specs.Trip.{runInput, runLent, runVerdict, Ready, Ran};
 ghost use Rattle.forwarding.specs.Hop.{Judged, stepInput, stepRest, stepVerdict};
 

@@ -17,8 +17,8 @@ use Rattle.rules.specs.Limits.{needCounts, linkPlace, homePlace, rowPlace, file
 use Rattle.rules.specs.File.{headerOf, endA, endB, linkWeight, homeNode, homeTopology, rowTopology, rowWeight}
 use Rattle.rules.specs.Isolation.{classBy, weightFits}
 use Rattle.rules.specs.Judgement.{refuse, inTurn, needMark, headerNumber, after, rises, linkNumber, homeNumber, rowWeightFits, rowNumber, records, judge}
-use Rattle.rules.proofs.Choices.{and-of, and-left, and-right, or-left, or-right, or-cases, same-test, false-of, clash, need-yes, need-no, need-le, need-ok, refuse-ok, refuse-no, then-ok, then-no, then-on, then-stop, turn-more, turn-stop, turn-done}
-use Rattle.rules.proofs.Numbers.{all-at}
+use Rattle.rules.proofs.Ground.Choices.{and-of, and-left, and-right, or-left, or-right, or-cases, clash, false-of, same-test, need-yes, need-no, need-le, need-ok, refuse-no, refuse-ok, then-ok, then-no, then-on, then-stop, turn-more, turn-stop, turn-done}
+use Rattle.rules.proofs.Ground.Numbers.{all-at}
 use Rattle.recordrules.specs.Rules.{headerRule, linkRule, homeRule, rowRule, weightRule}
 use Rattle.judgement.specs.Turns.{judged, homesThenRows, rankBefore, lowBefore}
 

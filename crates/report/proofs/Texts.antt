@@ -8,8 +8,8 @@ use lib.ListN.{length, getD, take, drop, set, length-append, length-set}
 use lib.Seq.{sets, set-out, sets-eq, take-suc, take-all}
 use Rattle.rules.specs.Basics.{laid}
 use Rattle.rules.specs.Report.{digits, decimal, space}
-use Rattle.rules.proofs.Fits.{digits-one, digits-more}
-use Rattle.rules.proofs.ChangeKinds.{letter-none, letter-t, letter-s, letter-d}
+use Rattle.rules.proofs.Forwarding.ChangeKinds.{letter-none, letter-t, letter-s, letter-d}
+use Rattle.rules.proofs.Report.TextLength.{digits-one, digits-more}
 use Rattle.report.specs.Text.{written, Wrote, field}
 
 -- ---- one after the other

@@ -9,7 +9,8 @@ use Rattle.rules.specs.Basics.{laid}
 use Rattle.rules.specs.File.{setOf}
 use Rattle.rules.specs.Judgement.{check}
 use Rattle.rules.specs.Report.{refusalLine, printed}
-use Rattle.rules.specs.Entries.{Promise, tablesEntry}
+use Rattle.rules.specs.Entries.Entry.{Promise}
+use Rattle.rules.specs.Entries.Tables.{tablesEntry}
 use Rattle.report.specs.Text.{Wrote}
 
 -- what the entry `tables` answered of file s, and the tables it left in room for the longest

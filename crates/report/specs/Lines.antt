@@ -11,9 +11,9 @@ use Rattle.rules.specs.declared.Kind.{Kind}
 use Rattle.rules.specs.Basics.{if_then_else_, flat, laid}
 use Rattle.rules.specs.File.{Set, headerOf, setOf}
 use Rattle.rules.specs.Distance.{nextHop, tableBytes}
-use Rattle.rules.specs.Forwarding.{hops}
+use Rattle.rules.specs.Forwarding.{hops, letter}
 use Rattle.rules.specs.Judgement.{check}
-use Rattle.rules.specs.Report.{decimal, space, newline, letter, kindOf, packetOf, detection, backupHops, extraHops, detectionLine}
+use Rattle.rules.specs.Report.{decimal, space, newline, packetOf, kindOf, detection, backupHops, extraHops, detectionLine}
 use Rattle.forwarding.specs.Trip.{runAt}
 use Rattle.report.specs.Text.{field}
 use Rattle.report.specs.declared.seen.Seen.{Seen}

@@ -15,7 +15,8 @@ use text::put;
 ghost use mathlib.Core.Path.{_≡_};
 ghost use lib.ListN.{length};
 ghost use Rattle.rules.specs.Report.{refusalLine};
-ghost use Rattle.rules.specs.Entries.{Promise, reportEntry};
+ghost use Rattle.rules.specs.Entries.Entry.{Promise};
+ghost use Rattle.rules.specs.Entries.Report.{reportEntry};
 ghost use Rattle.report.specs.Text.{Wrote};
 ghost use Rattle.report.specs.Answer.{Made, Says, Printed};
 

@@ -15,9 +15,9 @@ ghost use mathlib.Core.Path.{_≡_};
 ghost use Prim.Native.Nat.{_-_, _<_};
 ghost use lib.ListN.{length, getD};
 ghost use Rattle.rules.specs.File.{setOf};
+ghost use Rattle.rules.specs.Forwarding.{faultOf, entryPlace, packet, hops, runUnder};
+ghost use Rattle.rules.specs.Report.{packetOf, kindOf};
 ghost use Rattle.rules.specs.declared.Failure.the-variants.{Nothing};
-ghost use Rattle.rules.specs.Forwarding.{faultOf, entryPlace, packet, hops};
-ghost use Rattle.rules.specs.Report.{kindOf, packetOf, runUnder};
 ghost use Rattle.forwarding.specs.Hop.{stepAt};
 ghost use Rattle.report.specs.Lines.{Ready, Pair, Counted, seenBy};
 
