@@ -128,6 +128,7 @@ static void without_peers() {
     const vector<Set> largest{make_set(set_sizes[0], 0)};
     const vector<Way> ways{{"one pass over the bytes with a multiply each, for comparison", one_pass},
                            {"`read`: judged, and read into lists", our_read},
+                           {"`write`: laid from lists, judged, and copied", our_write},
                            {"`check`: judged and checked", our_check},
                            {"`run`, its tables among it", our_run}};
     vector<double> times = least(ways, largest);

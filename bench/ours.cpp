@@ -24,6 +24,11 @@ size_t our_read(const Set &s, uint8_t *) {
     return accepted(burnishpeg_read(s.file.data(), s.file.size(), a, 128, b, 128, weights, 128, homes, 32, rows, 4096));
 }
 
+size_t our_write(const Set &s, uint8_t *out) {
+    return accepted(burnishpeg_write(s.n, s.m, s.k, s.wmax, s.a.data(), s.a.size(), s.b.data(), s.b.size(), s.weights.data(), s.weights.size(),
+                                     s.homes.data(), s.homes.size(), s.rows.data(), s.rows.size(), out, most_bytes));
+}
+
 size_t our_check(const Set &s, uint8_t *) { return accepted(burnishpeg_check(s.file.data(), s.file.size())); }
 
 size_t our_run(const Set &s, uint8_t *out) {

@@ -24,7 +24,7 @@ use Rattle.rules.specs.declared.StepAnswer.the-variants as stepped
 use Rattle.rules.specs.declared.RunAnswer.{RunAnswer}
 use Rattle.rules.specs.declared.RunAnswer.the-variants as ran
 use Rattle.rules.specs.Basics.{if_then_else_}
-use Rattle.rules.specs.Report.{letter}
+use Rattle.rules.specs.Forwarding.{letter}
 use Rattle.rules.specs.Answers.{verdictTells, headerValues, readTells, lengthTells, outcomeValue, packetValues, stepValues, stepTells, journeyValues, runTells}
 use Rattle.answerwords.specs.Words.{refusedWord, pack, wordOf, byLength, byRead, byStep, byRun, failureOf}
 

@@ -11,10 +11,18 @@ use Rattle.rules.specs.declared.Verdict.{Verdict}
 use Rattle.rules.specs.declared.Verdict.the-variants.{Accepted, Refused}
 use Rattle.rules.specs.Basics.{if_then_else_}
 use Rattle.rules.specs.Answers.{accepted, refused, tell}
-use Rattle.rules.specs.Entries.{Entry, checkEntry, buildEntry, tablesEntry, stepEntry, runEntry, readEntry, writeEntry, reportEntry}
-use Rattle.rules.specs.Demands.{Numbered}
-use Rattle.rules.proofs.Numbered.{longest-is, read-numbered, write-numbered, check-numbered, build-numbered, tables-numbered, step-numbered, run-numbered, report-numbered}
-use Rattle.rules.proofs.Values.{Below, read-below, write-below, check-below, build-below, tables-below, step-below, run-below, report-below}
+use Rattle.rules.specs.Entries.Entry.{Entry}
+use Rattle.rules.specs.Entries.Read.{readEntry}
+use Rattle.rules.specs.Entries.Write.{writeEntry}
+use Rattle.rules.specs.Entries.Check.{checkEntry}
+use Rattle.rules.specs.Entries.Build.{buildEntry}
+use Rattle.rules.specs.Entries.Tables.{tablesEntry}
+use Rattle.rules.specs.Entries.Step.{stepEntry}
+use Rattle.rules.specs.Entries.Run.{runEntry}
+use Rattle.rules.specs.Entries.Report.{reportEntry}
+use Rattle.rules.specs.Demands.One.{Numbered}
+use Rattle.rules.proofs.Entries.Values.{Below, read-below, write-below, check-below, build-below, tables-below, report-below, step-below, run-below}
+use Rattle.rules.proofs.Refusals.Numbered.{longest-is, read-numbered, write-numbered, check-numbered, build-numbered, tables-numbered, step-numbered, run-numbered, report-numbered}
 use Rattle.answerwords.specs.Words.{refusedWord, pack, wordOf, byLength, byRead, byStep, byRun, refusing, numberIn, placeIn, unpack, toldBy, ReadFromWord, EveryWord}
 
 -- ---- values

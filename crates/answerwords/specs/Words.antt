@@ -11,7 +11,15 @@ use Rattle.rules.specs.declared.Failure.{Failure}
 use Rattle.rules.specs.declared.Failure.the-variants.{Nothing, Link, Node}
 use Rattle.rules.specs.Basics.{if_then_else_}
 use Rattle.rules.specs.Answers.{Told, accepted, refused, tell}
-use Rattle.rules.specs.Entries.{Entry, Promise, onAccept, checkEntry, buildEntry, tablesEntry, stepEntry, runEntry, readEntry, writeEntry, reportEntry}
+use Rattle.rules.specs.Entries.Entry.{Entry, onAccept, Promise}
+use Rattle.rules.specs.Entries.Read.{readEntry}
+use Rattle.rules.specs.Entries.Write.{writeEntry}
+use Rattle.rules.specs.Entries.Check.{checkEntry}
+use Rattle.rules.specs.Entries.Build.{buildEntry}
+use Rattle.rules.specs.Entries.Tables.{tablesEntry}
+use Rattle.rules.specs.Entries.Step.{stepEntry}
+use Rattle.rules.specs.Entries.Run.{runEntry}
+use Rattle.rules.specs.Entries.Report.{reportEntry}
 
 -- bit 63 is set, bits 32 to 39 hold the number, bits 0 to 31 the place
 unfoldable pub refusedWord : ℕ → ℕ → ℕ

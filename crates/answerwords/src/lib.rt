@@ -18,7 +18,7 @@ use text::letter;
 ghost use mathlib.Core.Path.{_≡_};
 ghost use mathlib.Core.List.{[], _∷_};
 ghost use Prim.Native.Nat.{_<_};
-ghost use Rattle.rules.specs.Report.{letter};
+ghost use Rattle.rules.specs.Forwarding.{letter};
 ghost use Rattle.rules.specs.Answers.{verdictTells, readTells, lengthTells, outcomeValue, stepValues, stepTells, journeyValues, runTells};
 ghost use Rattle.answerwords.specs.Words.{refusedWord, pack, wordOf, failureOf, byLength, byRead, byStep, byRun};
 

@@ -14,14 +14,15 @@ use Rattle.rules.specs.declared.LengthAnswer.{LengthAnswer}
 use Rattle.rules.specs.declared.LengthAnswer.the-variants as long
 use Rattle.rules.specs.Basics.{need, all, laid}
 use Rattle.rules.specs.Limits.{fileLength}
-use Rattle.rules.specs.File.{Set, setOf, headerOf, encode}
-use Rattle.rules.specs.Building.{fits, firstFit, highest, filled, built, spared, buildNumber}
+use Rattle.rules.specs.File.{Set, encode, headerOf, setOf}
+use Rattle.rules.specs.Building.{firstFit, fits, highest, filled, built, spared, buildNumber}
 use Rattle.rules.specs.Judgement.{refuse, andThen, judge, needGraph, needCap, needFit, needRoom}
 use Rattle.rules.specs.Answers.{tell, lengthTells}
-use Rattle.rules.specs.Entries.{Promise, onAccept, builtFrom, buildEntry}
-use Rattle.rules.proofs.Choices.{need-yes, need-no, need-le, need-le-no, need-eq, need-eq-no, refuse-no, refuse-ok, refuse-zero, need-ok, then-ok, then-no, then-first, then-second, then-on}
-use Rattle.rules.proofs.Determined.{length-one}
-use Rattle.rules.proofs.Held.{net-held}
+use Rattle.rules.specs.Entries.Entry.{onAccept, Promise}
+use Rattle.rules.specs.Entries.Build.{builtFrom, buildEntry}
+use Rattle.rules.proofs.Ground.Choices.{need-yes, need-no, need-le, need-le-no, need-eq, need-eq-no, need-ok, refuse-no, refuse-ok, refuse-zero, then-ok, then-no, then-first, then-second, then-on}
+use Rattle.rules.proofs.File.SetOfBytes.{net-held}
+use Rattle.rules.proofs.Entries.Determined.{length-one}
 use Rattle.checker.specs.Graph.{neighbourWords}
 use Rattle.checker.proofs.Same.{WordsOf}
 use Rattle.checker.proofs.Graph.{words-of, accepted-few}

@@ -11,10 +11,10 @@ use Rattle.rules.specs.Basics.{all}
 use Rattle.rules.specs.File.{Set}
 use Rattle.rules.specs.Isolation.{joins, linkBetween, neighbours, home, isolated, isolatedWord}
 use Rattle.rules.specs.Building.{withHomes, homeless, admits, firstTopology, homesAfter, firstFit, fits, spared}
-use Rattle.rules.proofs.Choices.{false-of}
-use Rattle.rules.proofs.Numbers.{all-at, all-of, all-ext, lowest-ext}
-use Rattle.rules.proofs.Removal.{alone-isolates}
-use Rattle.rules.proofs.FirstFit.{homes-long, placed}
+use Rattle.rules.proofs.Ground.Choices.{false-of}
+use Rattle.rules.proofs.Ground.Numbers.{all-at, all-of, all-ext, lowest-ext}
+use Rattle.rules.proofs.Isolation.Removal.{alone-isolates}
+use Rattle.rules.proofs.Building.FirstFit.{homes-long, placed}
 use Rattle.words.specs.Word.{only}
 use Rattle.words.proofs.Members.{has-ext, has-one, word-ext, only-fits}
 use Rattle.checker.specs.Topology.{backboneWord, connectedBy, numberBy}

@@ -12,9 +12,9 @@ use borrow.Author.Tests.{eqb-true, eqb-false, eq-eqb, ne-eqb, lt-ltb}
 use Rattle.rules.specs.Basics.{all, lowest}
 use Rattle.rules.specs.Isolation.{word}
 use Rattle.rules.specs.Building.{highest}
-use Rattle.rules.proofs.Choices.{and-of, false-of}
-use Rattle.rules.proofs.Numbers.{all-at, lowest-one, lowest-none}
-use Rattle.rules.proofs.Removal.{homeless-at}
+use Rattle.rules.proofs.Ground.Choices.{and-of, false-of}
+use Rattle.rules.proofs.Ground.Numbers.{all-at, lowest-none, lowest-one}
+use Rattle.rules.proofs.Isolation.Removal.{homeless-at}
 use Rattle.words.specs.Word.{adding, only}
 use Rattle.words.proofs.Members.{has-ext, has-none, has-word, has-adding, adding-fits, word-fits, word-ext}
 use Rattle.checker.specs.Graph.{entered}

@@ -6,11 +6,11 @@ use Rattle.rules.specs.declared.Verdict.{Verdict}
 use Rattle.rules.specs.declared.LengthAnswer.{LengthAnswer}
 use Rattle.rules.specs.Basics.{need, laid}
 use Rattle.rules.specs.Limits.{fileLength}
-use Rattle.rules.specs.File.{Set, setOf, encode}
+use Rattle.rules.specs.File.{Set, encode, setOf}
 use Rattle.rules.specs.Building.{fits, filled, built}
 use Rattle.rules.specs.Judgement.{refuse, andThen, needFit, needRoom}
 use Rattle.rules.specs.Answers.{tell, lengthTells}
-use Rattle.rules.specs.Entries.{onAccept}
+use Rattle.rules.specs.Entries.Entry.{onAccept}
 
 -- by verdict v: the set's bytes at the front of the file and their length, or the refusal and the file as it came
 pub record Gives (v : Verdict) (S : Set) (before : List ℕ) (r : LengthAnswer) (after : List ℕ) : Type 0 where

@@ -11,7 +11,15 @@ use Rattle.rules.specs.declared.LengthAnswer.{LengthAnswer}
 use Rattle.rules.specs.declared.StepAnswer.{StepAnswer}
 use Rattle.rules.specs.declared.RunAnswer.{RunAnswer}
 use Rattle.rules.specs.Answers.{verdictTells, readTells, lengthTells, stepTells, runTells}
-use Rattle.rules.specs.Entries.{Entry, Promise, Lists, BuildInput, WriteInput, StepInput, RunInput, RunLent, checkEntry, buildEntry, tablesEntry, writeEntry, readEntry, stepEntry, runEntry}
+use Rattle.rules.specs.Entries.Entry.{Entry, Promise}
+use Rattle.rules.specs.Entries.Lists.{Lists}
+use Rattle.rules.specs.Entries.Read.{readEntry}
+use Rattle.rules.specs.Entries.Write.{WriteInput, writeEntry}
+use Rattle.rules.specs.Entries.Check.{checkEntry}
+use Rattle.rules.specs.Entries.Build.{BuildInput, buildEntry}
+use Rattle.rules.specs.Entries.Tables.{tablesEntry}
+use Rattle.rules.specs.Entries.Step.{StepInput, stepEntry}
+use Rattle.rules.specs.Entries.Run.{RunInput, RunLent, runEntry}
 use Rattle.answerwords.specs.Words.{wordOf, byLength, byRead, byStep, byRun, Answers}
 
 answers : {Input Lent Answer : Type 0} (E : Entry Input Lent Answer) (ranges : List ℕ) (i : Input) (before : Lent) (r : Answer) (after : Lent) (w : ℕ) → Promise E i before r after → w ≡ wordOf ranges (E .tells r) → Answers E ranges i before w after

@@ -16,10 +16,11 @@ use Rattle.rules.specs.File.{setOf}
 use Rattle.rules.specs.Judgement.{refuse, andThen, check, needRoom}
 use Rattle.rules.specs.Report.{reportText}
 use Rattle.rules.specs.Answers.{accepted, refused, tell, lengthTells}
-use Rattle.rules.specs.Entries.{Promise, onAccept, reportEntry}
-use Rattle.rules.proofs.Choices.{then-ok}
-use Rattle.rules.proofs.Needs.{room-long}
-use Rattle.rules.proofs.Rows.{prefix-long, laid-front}
+use Rattle.rules.specs.Entries.Entry.{onAccept, Promise}
+use Rattle.rules.specs.Entries.Report.{reportEntry}
+use Rattle.rules.proofs.Ground.Choices.{then-ok}
+use Rattle.rules.proofs.Ground.Rows.{prefix-long, laid-front}
+use Rattle.rules.proofs.Refusals.Needs.{room-long}
 use Rattle.rooms.specs.Rooms.{Room}
 use Rattle.report.proofs.Answers.{report-verdict, report-inside}
 use Rattle.answerwords.specs.Words.{wordOf, byLength, Answers}

@@ -8,7 +8,7 @@ use Rattle.rules.specs.declared.LengthAnswer.the-variants as long
 use Rattle.rules.specs.Basics.{laid}
 use Rattle.rules.specs.Judgement.{needRoom}
 use Rattle.rules.specs.Answers.{tell, lengthTells}
-use Rattle.rules.specs.Entries.{onAccept}
+use Rattle.rules.specs.Entries.Entry.{onAccept}
 
 -- an answer of so many bytes is of bytes that were made
 pub record Inside (answer : LengthAnswer) (made : List ℕ) : Type 0 where

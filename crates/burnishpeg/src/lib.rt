@@ -16,7 +16,15 @@ use rules::Verdict;
 ghost use mathlib.Core.List.{[]};
 ghost use Prim.Native.Nat.{_≤_};
 ghost use lib.ListN.{length, take};
-ghost use Rattle.rules.specs.Entries.{lists, checkEntry, buildEntry, tablesEntry, stepEntry, runEntry, readEntry, writeEntry, reportEntry};
+ghost use Rattle.rules.specs.Entries.Lists.{lists};
+ghost use Rattle.rules.specs.Entries.Read.{readEntry};
+ghost use Rattle.rules.specs.Entries.Write.{writeEntry};
+ghost use Rattle.rules.specs.Entries.Check.{checkEntry};
+ghost use Rattle.rules.specs.Entries.Build.{buildEntry};
+ghost use Rattle.rules.specs.Entries.Tables.{tablesEntry};
+ghost use Rattle.rules.specs.Entries.Step.{stepEntry};
+ghost use Rattle.rules.specs.Entries.Run.{runEntry};
+ghost use Rattle.rules.specs.Entries.Report.{reportEntry};
 ghost use Rattle.answerwords.specs.Words.{failureOf, packetAt, Answers, byLength, byRead, byStep, byRun};
 ghost use Rattle.burnishpeg.specs.Laying.{Inside, Copied, Laid};
 

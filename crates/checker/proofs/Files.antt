@@ -11,12 +11,13 @@ use Rattle.rules.specs.declared.Network.{Network}
 use Rattle.rules.specs.declared.Verdict.{Verdict}
 use Rattle.rules.specs.declared.Verdict.the-variants.{Accepted, Refused}
 use Rattle.rules.specs.Basics.{need}
-use Rattle.rules.specs.File.{headerOf, setOf, endA, endB, homeTopology}
+use Rattle.rules.specs.File.{headerOf, endA, endB, homeTopology, setOf}
 use Rattle.rules.specs.Isolation.{word, isolatedWord, topologyNumber}
-use Rattle.rules.specs.Judgement.{refuse, inTurn, andThen, judge, needSet, topologies, check}
+use Rattle.rules.specs.Judgement.{refuse, andThen, inTurn, judge, needSet, topologies, check}
 use Rattle.rules.specs.Answers.{tell, verdictTells}
-use Rattle.rules.specs.Entries.{Promise, NothingLent, onAccept, checkEntry}
-use Rattle.rules.proofs.Choices.{need-ok, refuse-no, refuse-ok, refuse-zero, then-on, then-stop, turn-none, turn-more, turn-stop, turn-done}
+use Rattle.rules.specs.Entries.Entry.{onAccept, Promise, NothingLent}
+use Rattle.rules.specs.Entries.Check.{checkEntry}
+use Rattle.rules.proofs.Ground.Choices.{need-ok, refuse-no, refuse-ok, refuse-zero, then-on, then-stop, turn-none, turn-more, turn-stop, turn-done}
 use Rattle.words.specs.Word.{put}
 use Rattle.words.proofs.Members.{word-more}
 use Rattle.checker.specs.Graph.{entered, linked, neighbourWords, homeIs, Ends}

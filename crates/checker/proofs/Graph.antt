@@ -14,12 +14,12 @@ use Rattle.rules.specs.Limits.{homeRecords}
 use Rattle.rules.specs.File.{Set, setOf, headerOf, endA, endB, homeTopology}
 use Rattle.rules.specs.Isolation.{joins, linkBetween, neighbours, home, isolated, isolatedWord, word}
 use Rattle.rules.specs.Judgement.{judge}
-use Rattle.rules.proofs.Choices.{clash, false-of, same-test}
-use Rattle.rules.proofs.Numbers.{any-at, any-of, any-ext, lowest-found, lowest-none}
-use Rattle.rules.proofs.Rows.{getD-upTo}
-use Rattle.rules.proofs.Removal.{homeless-at}
-use Rattle.rules.proofs.Held.{homes-all}
-use Rattle.rules.proofs.Records.{file-meets}
+use Rattle.rules.proofs.Ground.Choices.{clash, false-of, same-test}
+use Rattle.rules.proofs.Ground.Numbers.{any-at, any-of, any-ext, lowest-none, lowest-found}
+use Rattle.rules.proofs.Ground.Rows.{getD-upTo}
+use Rattle.rules.proofs.File.Records.{file-meets}
+use Rattle.rules.proofs.Isolation.HomesAndRows.{homes-all}
+use Rattle.rules.proofs.Isolation.Removal.{homeless-at}
 use Rattle.words.specs.Word.{has, adding}
 use Rattle.words.proofs.Members.{has-none, has-adding, word-ext}
 use Rattle.checker.specs.Graph.{entered, linked, neighbourWords, homeIs, Ends}

@@ -11,9 +11,9 @@ use lib.Dec.{eqb, leb}
 use lib.ListN.{getD, set}
 use borrow.Author.Tests.{eqb-true, eq-eqb, ne-eqb, not-true}
 use Rattle.rules.specs.Basics.{need, all}
-use Rattle.rules.specs.Demands.{Walk}
-use Rattle.rules.proofs.Choices.{and-of, and-left, and-right, or-left, or-right, or-cases, false-of, clash}
-use Rattle.rules.proofs.Numbers.{all-at, count-lt, count-all}
+use Rattle.rules.specs.Sets.{Walk}
+use Rattle.rules.proofs.Ground.Choices.{and-of, and-left, and-right, or-left, or-right, or-cases, clash, false-of}
+use Rattle.rules.proofs.Ground.Numbers.{all-at, count-lt, count-all}
 use Rattle.words.specs.Word.{has, only, both, either, minus, adding, firsts, lowestIn}
 use Rattle.words.proofs.Members.{has-none, has-both, has-either, has-minus, has-adding, has-one, has-bound, either-fits, adding-fits, only-fits, minus-fits}
 use Rattle.words.proofs.Tally.{ones-count, lowest-there}

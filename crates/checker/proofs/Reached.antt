@@ -7,9 +7,9 @@ use native.Mathlib.Omega.{arith}
 use lib.ListN.{getD}
 use borrow.Author.Tests.{eqb-true, eq-eqb}
 use Rattle.rules.specs.Basics.{any}
-use Rattle.rules.specs.Demands.{Walk, stay, go}
-use Rattle.rules.proofs.Choices.{and-left, and-right, same-test}
-use Rattle.rules.proofs.Spreading.{Spreading, walked, reaches}
+use Rattle.rules.specs.Sets.{Walk, stay, go}
+use Rattle.rules.proofs.Ground.Choices.{and-left, and-right, same-test}
+use Rattle.rules.proofs.Isolation.Spreading.{Spreading, walked, reaches}
 use Rattle.words.specs.Word.{has}
 use Rattle.words.proofs.Members.{has-word, has-one, has-ext, has-bound, word-fits, only-fits}
 use Rattle.checker.specs.Topology.{normal, spreadWord, rounds, reachedWord}

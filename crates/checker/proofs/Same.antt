@@ -12,11 +12,11 @@ use borrow.Author.Tests.{eqb-true, eqb-false, eq-eqb, ne-eqb, ltb-false, lt-ltb,
 use Rattle.rules.specs.Basics.{need}
 use Rattle.rules.specs.File.{Set}
 use Rattle.rules.specs.Isolation.{neighbours, isolated, isolatedWord, backbone, word, normalHop, connected, restrictedLinks, twoLinks, topologyNumber}
-use Rattle.rules.proofs.Choices.{and-of, and-left, and-right, clash, false-of, same-test}
-use Rattle.rules.proofs.Numbers.{all-ext}
-use Rattle.rules.proofs.Homes.{backbone-node}
-use Rattle.rules.proofs.Walks.{walk-map}
-use Rattle.rules.proofs.Connected.{Joined, joined-from, connected-by}
+use Rattle.rules.proofs.Ground.Choices.{and-of, and-left, and-right, clash, false-of, same-test}
+use Rattle.rules.proofs.Ground.Numbers.{all-ext}
+use Rattle.rules.proofs.Isolation.Homes.{backbone-node}
+use Rattle.rules.proofs.Isolation.Walks.{walk-map}
+use Rattle.rules.proofs.Isolation.Connected.{Joined, joined-from, connected-by}
 use Rattle.words.specs.Word.{has, both, minus, firsts, lowestIn}
 use Rattle.words.proofs.Members.{has-none, has-both, has-minus, has-first, has-ext, has-word, word-fits, minus-fits, firsts-fits}
 use Rattle.words.proofs.Tally.{ones-word, lowest-there}

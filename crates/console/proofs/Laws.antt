@@ -8,7 +8,7 @@ use native.Mathlib.Omega.{arith}
 use lib.Dec.{eqb, leb}
 use lib.ListN.{length, getD}
 use borrow.Author.Tests.{le-leb, lt-leb, eq-eqb, ne-eqb}
-use Rattle.rules.proofs.Choices.{and-of, and-left, and-right, if-yes, if-no, false-of, clash}
+use Rattle.rules.proofs.Ground.Choices.{and-of, and-left, and-right, clash, false-of, if-yes, if-no}
 use Rattle.console.specs.declared.number.Number.{Number}
 use Rattle.console.specs.declared.number.Number.the-variants.{Given, Unclear}
 use Rattle.console.specs.Numbers.{more, valueOf, numberBy, numberIn}

@@ -8,8 +8,8 @@ use lib.ListN.{length}
 use borrow.Author.Tests.{eqb-true, eqb-false, not-true}
 use Rattle.rules.specs.Basics.{if_then_else_, all}
 use Rattle.rules.specs.Report.{digits, decimal}
-use Rattle.rules.proofs.Choices.{and-left, and-right}
-use Rattle.rules.proofs.Numbers.{all-at}
+use Rattle.rules.proofs.Ground.Choices.{and-left, and-right}
+use Rattle.rules.proofs.Ground.Numbers.{all-at}
 use Rattle.console.specs.declared.number.Number.the-variants.{Given}
 use Rattle.console.specs.Numbers.{more, valueOf, numberIn}
 use Rattle.console.proofs.Laws.{by-given, in-given}

@@ -19,12 +19,12 @@ use Rattle.rules.specs.Limits.{mostHops}
 use Rattle.rules.specs.File.{Set, setOf}
 use Rattle.rules.specs.Isolation.{linkBetween}
 use Rattle.rules.specs.Distance.{nextHop}
-use Rattle.rules.specs.Forwarding.{link, faultOf, up, Tables, tablesOf, entryPlace, lentTables, packet, step, hops, stop, onward, afterStep, run}
-use Rattle.rules.specs.Report.{kindOf, packetOf, detectedLink, detection, runUnder, backupHops, plainHops, extraHops}
-use Rattle.rules.proofs.Held.{net-held}
-use Rattle.rules.proofs.Checked.{checked-file, checked-set}
-use Rattle.rules.proofs.Runs.{starts}
-use Rattle.rules.proofs.Lent.{Agree, lent-agree, step-same, run-same}
+use Rattle.rules.specs.Forwarding.{link, faultOf, up, Tables, tablesOf, entryPlace, lentTables, packet, step, hops, stop, onward, afterStep, run, runUnder}
+use Rattle.rules.specs.Report.{packetOf, kindOf, detectedLink, detection, backupHops, plainHops, extraHops}
+use Rattle.rules.proofs.File.SetOfBytes.{net-held}
+use Rattle.rules.proofs.File.Checked.{checked-file, checked-set}
+use Rattle.rules.proofs.Forwarding.Runs.{starts}
+use Rattle.rules.proofs.Forwarding.LentTables.{Agree, lent-agree, step-same, run-same}
 use Rattle.hop.specs.Hop.{Judged, on, tablesAt, stepAt}
 use Rattle.travel.specs.Trip.{runAt, journeyOf, RunsAs}
 use Rattle.travel.proofs.Trips.{run-delivered, run-dropped, run-moved}

@@ -12,11 +12,11 @@ use travel::travel;
 ghost use mathlib.Core.Path.{_≡_};
 ghost use Prim.Native.Nat.{_-_, _<_};
 ghost use lib.ListN.{getD};
-ghost use Rattle.rules.specs.File.{setOf};
-ghost use Rattle.rules.specs.declared.Failure.the-variants.{Nothing};
 ghost use Rattle.rules.specs.Limits.{longest};
-ghost use Rattle.rules.specs.Forwarding.{faultOf, entryPlace, packet, hops};
-ghost use Rattle.rules.specs.Report.{kindOf, packetOf, runUnder};
+ghost use Rattle.rules.specs.File.{setOf};
+ghost use Rattle.rules.specs.Forwarding.{faultOf, entryPlace, packet, hops, runUnder};
+ghost use Rattle.rules.specs.Report.{packetOf, kindOf};
+ghost use Rattle.rules.specs.declared.Failure.the-variants.{Nothing};
 ghost use Rattle.hop.specs.Hop.{stepAt};
 ghost use Rattle.detections.specs.Detection.{Ready, Pair, Counted, seenBy};
 

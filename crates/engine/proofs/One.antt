@@ -13,8 +13,8 @@ use Rattle.rules.specs.Basics.{need, upTo}
 use Rattle.rules.specs.Limits.{restrictedWeight, homeRecords}
 use Rattle.rules.specs.File.{Set}
 use Rattle.rules.specs.Isolation.{home}
-use Rattle.rules.specs.Demands.{AcceptedSet}
-use Rattle.rules.specs.Entries.{setWith}
+use Rattle.rules.specs.Entries.Write.{setWith}
+use Rattle.rules.specs.Sets.{AcceptedSet}
 use Rattle.routes.specs.Listed.{listed}
 use Rattle.routes.specs.Lanes.{LowRows}
 use Rattle.routes.specs.Passes.{netOf, Wired, settled}

@@ -14,11 +14,11 @@ use Rattle.rules.specs.Basics.{upTo, flat}
 use Rattle.rules.specs.Limits.{tablesLength}
 use Rattle.rules.specs.File.{Set}
 use Rattle.rules.specs.Distance.{nextHop, alternate, tableBytes}
-use Rattle.rules.specs.Demands.{AcceptedSet}
-use Rattle.rules.specs.Entries.{setWith}
+use Rattle.rules.specs.Entries.Write.{setWith}
+use Rattle.rules.specs.Sets.{AcceptedSet}
 use Rattle.routes.specs.Listed.{listed}
-use Rattle.rules.proofs.Rows.{length-upTo, length-flat, upTo-ext, flat-ext}
-use Rattle.rules.proofs.Homes.{home-high}
+use Rattle.rules.proofs.Ground.Rows.{length-upTo, upTo-ext, length-flat, flat-ext}
+use Rattle.rules.proofs.Isolation.Homes.{home-high}
 use Rattle.routes.proofs.Filling.{fill-more, fill-done, rows-more, rows-done, at-none, at-more, part-long}
 use Rattle.engine.specs.Stages.{hopTable, entry, entriesOf, AlternatesBelow, Work, Added, AddedAt, AllAdded, Roomy, Stage}
 

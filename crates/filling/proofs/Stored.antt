@@ -15,7 +15,7 @@ use Rattle.rules.specs.Limits.{homeRecords, rowLength, rowWeights, linkPlace, h
 use Rattle.rules.specs.File.{bytes2, headerBytes, endA, endB, linkWeight}
 use Rattle.rules.specs.Isolation.{classBy}
 use Rattle.rules.specs.Building.{onNormal}
-use Rattle.rules.proofs.Rows.{length-flat}
+use Rattle.rules.proofs.Ground.Rows.{length-flat}
 use Rattle.slices.specs.Stores.{put}
 use Rattle.slices.proofs.Stores.{put-then, Storing, storing-more}
 use Rattle.layout.specs.Records.{linkRecord, homeRecord, homeOf, rowHead}

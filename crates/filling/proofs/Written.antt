@@ -9,9 +9,10 @@ use Rattle.rules.specs.Limits.{rowWeights, homeRecords, fileLength}
 use Rattle.rules.specs.File.{setOf, headerOf, bytes2, headerBytes, linkBytes, homeBytes, rowStart, rowBytes, encode}
 use Rattle.rules.specs.Isolation.{class, home}
 use Rattle.rules.specs.Building.{withHomes, onNormal, highest, filled}
-use Rattle.rules.proofs.Rows.{length-upTo, getD-upTo, getD-flat, flat-ext}
-use Rattle.rules.proofs.Held.{isolated-by-home, a-held, b-held, weight-held}
-use Rattle.rules.proofs.Encoded.{encode-long}
+use Rattle.rules.proofs.Ground.Rows.{length-upTo, getD-upTo, getD-flat, flat-ext}
+use Rattle.rules.proofs.File.Encoded.{encode-long}
+use Rattle.rules.proofs.File.SetOfBytes.{a-held, b-held, weight-held}
+use Rattle.rules.proofs.Isolation.HomesAndRows.{isolated-by-home}
 use Rattle.slices.specs.Stores.{put}
 use Rattle.slices.proofs.Stores.{put-laid}
 use Rattle.layout.specs.Records.{linkRecord, homeRecord, homeOf, rowHead}

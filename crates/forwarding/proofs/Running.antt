@@ -18,18 +18,18 @@ use Rattle.rules.specs.Basics.{need, laid}
 use Rattle.rules.specs.Limits.{tablesLength, mostHops, trailRoom}
 use Rattle.rules.specs.File.{headerOf, setOf}
 use Rattle.rules.specs.Distance.{tableBytes}
-use Rattle.rules.specs.Forwarding.{Run, faultOf, packet, tablesOf, lentTables, trail, run}
+use Rattle.rules.specs.Forwarding.{faultOf, tablesOf, lentTables, packet, Run, trail, run, runUnder}
 use Rattle.rules.specs.Judgement.{refuse, andThen, check, needPacket, needSource, needRoom}
-use Rattle.rules.specs.Report.{runUnder}
 use Rattle.rules.specs.Answers.{tell, journeyValues, runTells}
-use Rattle.rules.specs.Entries.{Promise, onAccept, RunLent, runOf, runValues, runEntry}
-use Rattle.rules.specs.Demands.{WithinLimits}
-use Rattle.rules.proofs.Choices.{need-ok, refuse-zero, then-first, then-second}
-use Rattle.rules.proofs.Rows.{prefix-long}
-use Rattle.rules.proofs.Held.{net-held}
-use Rattle.rules.proofs.Checked.{checked-file, checked-set}
-use Rattle.rules.proofs.Lent.{bytes-long, lent-agree, run-same}
-use Rattle.rules.proofs.Runs.{Within}
+use Rattle.rules.specs.Entries.Entry.{onAccept, Promise}
+use Rattle.rules.specs.Entries.Run.{RunLent, runOf, runValues, runEntry}
+use Rattle.rules.specs.Sets.{WithinLimits}
+use Rattle.rules.proofs.Ground.Choices.{need-ok, refuse-zero, then-first, then-second}
+use Rattle.rules.proofs.Ground.Rows.{prefix-long}
+use Rattle.rules.proofs.File.SetOfBytes.{net-held}
+use Rattle.rules.proofs.File.Checked.{checked-file, checked-set}
+use Rattle.rules.proofs.Forwarding.Runs.{Within}
+use Rattle.rules.proofs.Forwarding.LentTables.{bytes-long, lent-agree, run-same}
 use Rattle.hop.specs.Hop.{Judged, on}
 use Rattle.travel.specs.Trip.{runAt, journeyOf, RunsAs}
 use Rattle.forwarding.specs.Runs.{runInput, runLent, runVerdict, Ready, Ran}

@@ -16,8 +16,9 @@ use Rattle.rules.specs.Limits.{tablesLength}
 use Rattle.rules.specs.File.{headerOf}
 use Rattle.rules.specs.Judgement.{refuse, andThen, judge, needSet, needPacket, needSource, needRoom}
 use Rattle.rules.specs.Answers.{tell, stepTells}
-use Rattle.rules.specs.Entries.{Promise, onAccept, lookupsOf, stepOf, stepEntry}
-use Rattle.rules.proofs.Choices.{then-first, then-on, then-stop}
+use Rattle.rules.specs.Entries.Entry.{onAccept, Promise}
+use Rattle.rules.specs.Entries.Step.{lookupsOf, stepOf, stepEntry}
+use Rattle.rules.proofs.Ground.Choices.{then-first, then-on, then-stop}
 use Rattle.hop.specs.Hop.{Judged, stepAt, lookupAt}
 use Rattle.forwarding.specs.Steps.{stepInput, stepRest, stepVerdict}
 

@@ -13,10 +13,9 @@ use Rattle.rules.specs.Basics.{need, laid}
 use Rattle.rules.specs.Limits.{tablesLength, trailRoom}
 use Rattle.rules.specs.File.{headerOf, setOf}
 use Rattle.rules.specs.Distance.{tableBytes}
-use Rattle.rules.specs.Forwarding.{faultOf, packet, trail}
+use Rattle.rules.specs.Forwarding.{faultOf, packet, trail, runUnder}
 use Rattle.rules.specs.Judgement.{refuse, andThen, check, needPacket, needSource}
-use Rattle.rules.specs.Report.{runUnder}
-use Rattle.rules.specs.Entries.{RunInput, RunLent}
+use Rattle.rules.specs.Entries.Run.{RunInput, RunLent}
 use Rattle.travel.specs.Trip.{journeyOf}
 
 abbrev pub runInput : List ℕ → ℕ → ℕ → Failure → RunInput

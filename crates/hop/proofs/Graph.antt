@@ -15,12 +15,12 @@ use Rattle.rules.specs.Limits.{homeRecords}
 use Rattle.rules.specs.File.{headerOf, setOf, endA, endB, homeTopology}
 use Rattle.rules.specs.Isolation.{joins, linkBetween, neighbours, home}
 use Rattle.rules.specs.Forwarding.{faultOf, up}
-use Rattle.rules.proofs.Choices.{same-test}
-use Rattle.rules.proofs.Numbers.{lowest-ext, lowest-one, lowest-none}
-use Rattle.rules.proofs.Rows.{length-upTo, getD-upTo}
-use Rattle.rules.proofs.Held.{net-held}
-use Rattle.rules.proofs.Accepted.{judged}
-use Rattle.rules.proofs.Links.{Ends, joins-ends, ends-join, link-ends, link-is}
+use Rattle.rules.proofs.Ground.Choices.{same-test}
+use Rattle.rules.proofs.Ground.Numbers.{lowest-none, lowest-ext, lowest-one}
+use Rattle.rules.proofs.Ground.Rows.{length-upTo, getD-upTo}
+use Rattle.rules.proofs.File.SetOfBytes.{net-held}
+use Rattle.rules.proofs.File.Accepted.{judged}
+use Rattle.rules.proofs.Isolation.Links.{Ends, joins-ends, ends-join, link-ends, link-is}
 use Rattle.hop.specs.Hop.{Judged, joinsAt, on}
 
 -- ---- tests

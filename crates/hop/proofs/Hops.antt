@@ -17,7 +17,7 @@ use Rattle.rules.specs.Basics.{need}
 use Rattle.rules.specs.File.{headerOf, setOf}
 use Rattle.rules.specs.Isolation.{neighbours, home}
 use Rattle.rules.specs.Forwarding.{entryPlace, lentTables, packet, moveOrDrop, changeTo, blocked, toward, step, alternateNumber, changeNumber, towardNumber, lookupNumber}
-use Rattle.rules.proofs.Choices.{if-yes, if-no, need-yes, need-no}
+use Rattle.rules.proofs.Ground.Choices.{if-yes, if-no, need-yes, need-no}
 use Rattle.hop.specs.Hop.{on, tablesAt, kindBy, onwardNumber, stepAt, lookupAt}
 
 -- ---- the tables

@@ -12,14 +12,14 @@ use lib.Seq.{getD-set-same, getD-set-other}
 use borrow.Author.Tests.{eqb-true, eqb-false, eq-eqb, ne-eqb, not-true}
 use Rattle.rules.specs.Basics.{if_then_else_, lowest, least}
 use Rattle.rules.specs.File.{Set}
-use Rattle.rules.specs.Isolation.{home, isolated, neighbours, linkBetween}
+use Rattle.rules.specs.Isolation.{linkBetween, neighbours, home, isolated}
 use Rattle.rules.specs.Distance.{far, distances, distance, candidate, nearest, alternate}
-use Rattle.rules.specs.Demands.{AcceptedSet}
-use Rattle.rules.proofs.Choices.{and-of, and-left, and-right, or-left, or-right, or-cases, if-yes, if-no, clash, same-test}
-use Rattle.rules.proofs.Numbers.{lowest-found, lowest-is, lowest-ext, least-ext}
-use Rattle.rules.proofs.Links.{Ends, link-below, link-ends, ends-neighbours, neighbours-below}
-use Rattle.rules.proofs.Homes.{Outlet, home-low, home-isolated, away}
-use Rattle.rules.proofs.NextHops.{candidate-outlet, outlet-candidate, nearest-alternates}
+use Rattle.rules.specs.Sets.{AcceptedSet}
+use Rattle.rules.proofs.Ground.Choices.{and-of, and-left, and-right, or-left, or-right, or-cases, clash, same-test, if-yes, if-no}
+use Rattle.rules.proofs.Ground.Numbers.{lowest-ext, lowest-found, lowest-is, least-ext}
+use Rattle.rules.proofs.Isolation.Links.{Ends, link-below, link-ends, ends-neighbours, neighbours-below}
+use Rattle.rules.proofs.Isolation.Homes.{home-isolated, away, Outlet, home-low}
+use Rattle.rules.proofs.Distance.NextHops.{candidate-outlet, outlet-candidate, nearest-alternates}
 use Rattle.routes.specs.Lanes.{column}
 use Rattle.routes.specs.Costs.{Distances}
 use Rattle.routes.proofs.Lanes.{same?}

@@ -12,7 +12,7 @@ use lib.Dec.{eqb}
 use borrow.Author.Tests.{eq-eqb, ne-eqb}
 use Rattle.rules.specs.Basics.{if_then_else_, least}
 use Rattle.rules.specs.Distance.{far}
-use Rattle.rules.proofs.Choices.{if-yes, if-no}
+use Rattle.rules.proofs.Ground.Choices.{if-yes, if-no}
 use Rattle.routes.specs.Lanes.{column}
 use Rattle.routes.proofs.Lanes.{same?, column-at}
 use Rattle.words.specs.Word.{either, lowestIn, only}

@@ -12,13 +12,13 @@ use borrow.Author.Tests.{eqb-true, eqb-false, eq-eqb}
 use Rattle.rules.specs.Basics.{if_then_else_, lowest, upTo, flat}
 use Rattle.rules.specs.File.{Set}
 use Rattle.rules.specs.Isolation.{linkBetween}
-use Rattle.rules.specs.Distance.{distance, distances, nextHop, onLeastPath}
-use Rattle.rules.specs.Demands.{AcceptedSet}
-use Rattle.rules.proofs.Choices.{if-yes, if-no}
-use Rattle.rules.proofs.Rows.{upTo-ext, flat-ext}
-use Rattle.rules.proofs.Links.{link-below, link-ends, hop-neighbours, usable-hop}
-use Rattle.rules.proofs.Reach.{below-far}
-use Rattle.rules.proofs.NextHops.{Next, next}
+use Rattle.rules.specs.Distance.{distances, distance, onLeastPath, nextHop}
+use Rattle.rules.specs.Sets.{AcceptedSet}
+use Rattle.rules.proofs.Ground.Choices.{if-yes, if-no}
+use Rattle.rules.proofs.Ground.Rows.{upTo-ext, flat-ext}
+use Rattle.rules.proofs.Isolation.Links.{link-below, link-ends, hop-neighbours, usable-hop}
+use Rattle.rules.proofs.Distance.Reach.{below-far}
+use Rattle.rules.proofs.Distance.NextHops.{Next, next}
 use Rattle.routes.specs.Lanes.{column}
 use Rattle.routes.specs.Passes.{Net, netOf}
 use Rattle.routes.specs.Costs.{cost, Distances}

@@ -15,8 +15,8 @@ use mir.Val.{Fits}
 use borrow.Author.Count.{below-more, below-none}
 use borrow.Author.Tests.{eq-eqb, ne-eqb}
 use Rattle.rules.specs.Basics.{upTo, flat}
-use Rattle.rules.proofs.Choices.{if-yes, if-no}
-use Rattle.rules.proofs.Rows.{length-upTo, upTo-ext, flat-ext}
+use Rattle.rules.proofs.Ground.Choices.{if-yes, if-no}
+use Rattle.rules.proofs.Ground.Rows.{length-upTo, upTo-ext, flat-ext}
 use Rattle.routes.specs.Lanes.{column}
 use Rattle.routes.specs.Passes.{Net, netOf, Wired}
 use Rattle.routes.proofs.Lanes.{same?, column-at, column-long, column-set}

@@ -17,8 +17,8 @@ use Rattle.rules.specs.Limits.{needCounts, linkPlace, homePlace, rowPlace, file
 use Rattle.rules.specs.File.{headerOf, endA, endB, linkWeight, homeNode, homeTopology, rowTopology, rowWeight}
 use Rattle.rules.specs.Isolation.{classBy, weightFits}
 use Rattle.rules.specs.Judgement.{refuse, inTurn, needMark, headerNumber, after, rises, linkNumber, homeNumber, rowWeightFits, rowNumber, records, judge}
-use Rattle.rules.proofs.Choices.{and-of, and-left, and-right, or-left, or-right, or-cases, same-test, false-of, clash, need-yes, need-no, need-le, need-ok, refuse-ok, refuse-no, then-ok, then-no, then-on, then-stop, turn-more, turn-stop, turn-done}
-use Rattle.rules.proofs.Numbers.{all-at}
+use Rattle.rules.proofs.Ground.Choices.{and-of, and-left, and-right, or-left, or-right, or-cases, clash, false-of, same-test, need-yes, need-no, need-le, need-ok, refuse-no, refuse-ok, then-ok, then-no, then-on, then-stop, turn-more, turn-stop, turn-done}
+use Rattle.rules.proofs.Ground.Numbers.{all-at}
 use Rattle.recordrules.specs.Rules.{headerRule, linkRule, homeRule, rowRule, weightRule}
 use Rattle.judgement.specs.Turns.{judged, homesThenRows, rankBefore, lowBefore}
 
@@ -106,8 +106,8 @@ pub ruleset link-turns = (turn-taken, turn-refused, turn-done, ranked-more, link
 -- ---- homes
 
 pub home-number : (s : List ℕ) (h : Network) (v place x y node topology number : ℕ) → number ≡ homeRule h v x y node topology → x ≡ getD s place 0
-    → y ≡ getD s (place + 1) 0 → node ≡ getD s (place + 2) 0 → topology ≡ getD s (place + 3) 0 → place ≡ homePlace h v → number ≡ homeNumber s h v
-unfolding homeRule homeNumber needMark homeNode homeTopology
+    → y ≡ getD s (place + 1) 0 → node ≡ getD s (place + 2) 0 → topology ≡ homeTopology s h v → place ≡ homePlace h v → number ≡ homeNumber s h v
+unfolding homeRule homeNumber needMark homeNode
 home-number s h v place x y node topology number e ex ey en et ep = e ∙ rw (ex, ey, en, et, ep)
 
 pub ruleset home-turns = (turn-taken, turn-refused, turn-done, home-number)

@@ -81,7 +81,7 @@ fn homes(file: &[u8], net: Network, count: usize) -> Verdict
             byte(file, place),
             byte(file, place + 1),
             byte(file, place + 2),
-            byte(file, place + 3),
+            home_topology(file, net, v),
         );
         if number != 0 {
             return Verdict::Refused { number, place };

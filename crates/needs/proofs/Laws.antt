@@ -14,7 +14,7 @@ use Rattle.rules.specs.declared.Verdict.the-variants.{Accepted, Refused}
 use Rattle.rules.specs.Basics.{if_then_else_, need}
 use Rattle.rules.specs.Limits.{homeRecords, rowWeights}
 use Rattle.rules.specs.Judgement.{refuse, andThen, needSet, needGraph, needFailure, needPacket, needCap, sourceNumber, needSource}
-use Rattle.rules.proofs.Choices.{need-lt, need-lt-no, need-le, need-le-no, need-ok, refuse-zero, refuse-ok, refuse-no, then-on, then-stop}
+use Rattle.rules.proofs.Ground.Choices.{need-lt, need-lt-no, need-le, need-le-no, need-ok, refuse-no, refuse-ok, refuse-zero, then-on, then-stop}
 use Rattle.needs.specs.Numbers.{packetNumber, listsRule, listsVerdict}
 
 -- ---- one refusal each

@@ -11,7 +11,7 @@ use Rattle.rules.specs.declared.Network.{Network}
 use Rattle.rules.specs.Basics.{upTo, flat, laid}
 use Rattle.rules.specs.Limits.{linkPlace, homePlace, rowPlace, rowWeights}
 use Rattle.rules.specs.File.{two, endA, endB, linkWeight, homeTopology, rowWeight}
-use Rattle.rules.proofs.Rows.{length-upTo, upTo-ext, length-flat, length-laid, laid-more, laid-on}
+use Rattle.rules.proofs.Ground.Rows.{length-upTo, upTo-ext, length-flat, length-laid, laid-more, laid-on}
 use Rattle.reader.specs.Reading.{byteAt, twoAt, rowOf}
 
 -- after i turns e is d with i entries at its front, and the next is read at `at`

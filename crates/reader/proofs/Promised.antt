@@ -8,12 +8,14 @@ use Rattle.rules.specs.declared.Verdict.{Verdict}
 use Rattle.rules.specs.declared.Verdict.the-variants.{Accepted, Refused}
 use Rattle.rules.specs.declared.ReadAnswer.the-variants as read
 use Rattle.rules.specs.Basics.{upTo, flat, laid}
-use Rattle.rules.specs.Limits.{homeRecords, rowWeights}
+use Rattle.rules.specs.Limits.{rowWeights, homeRecords}
 use Rattle.rules.specs.File.{headerOf, endA, endB, linkWeight, homeTopology, setOf}
 use Rattle.rules.specs.Judgement.{andThen, judge}
 use Rattle.rules.specs.Answers.{tell, readTells}
-use Rattle.rules.specs.Entries.{Lists, lists, Promise, onAccept, needLists, listsWith, readEntry}
-use Rattle.rules.proofs.Choices.{then-second}
+use Rattle.rules.specs.Entries.Entry.{onAccept, Promise}
+use Rattle.rules.specs.Entries.Lists.{Lists, lists, needLists}
+use Rattle.rules.specs.Entries.Read.{listsWith, readEntry}
+use Rattle.rules.proofs.Ground.Choices.{then-second}
 use Rattle.needs.specs.Numbers.{listsRule, listsVerdict}
 use Rattle.needs.proofs.Laws.{lists-long}
 use Rattle.reader.specs.Reading.{rowOf, listsOf, Room, readVerdict}

@@ -5,10 +5,10 @@ use lib.ListN.{length, getD}
 use Rattle.rules.specs.declared.Network.{Network}
 use Rattle.rules.specs.declared.Verdict.{Verdict}
 use Rattle.rules.specs.Basics.{upTo, flat, laid}
-use Rattle.rules.specs.Limits.{homeRecords, rowWeights}
+use Rattle.rules.specs.Limits.{rowWeights, homeRecords}
 use Rattle.rules.specs.File.{two, endA, endB, linkWeight, homeTopology, rowWeight}
 use Rattle.rules.specs.Judgement.{andThen, judge}
-use Rattle.rules.specs.Entries.{Lists, lists}
+use Rattle.rules.specs.Entries.Lists.{Lists, lists}
 use Rattle.needs.specs.Numbers.{listsVerdict}
 
 -- the bytes at equal distances, and the numbers of two bytes

@@ -18,7 +18,9 @@ ghost use lib.ListN.{length};
 ghost use Rattle.rules.specs.Basics.{upTo, flat, laid};
 ghost use Rattle.rules.specs.Limits.{rowWeights};
 ghost use Rattle.rules.specs.File.{endA, endB, linkWeight, homeTopology, rowWeight};
-ghost use Rattle.rules.specs.Entries.{lists, Promise, readEntry};
+ghost use Rattle.rules.specs.Entries.Entry.{Promise};
+ghost use Rattle.rules.specs.Entries.Lists.{lists};
+ghost use Rattle.rules.specs.Entries.Read.{readEntry};
 ghost use Rattle.reader.specs.Reading.{byteAt, twoAt, rowOf, readVerdict, Room, listsOf};
 
 // ---- one list

@@ -7,7 +7,7 @@ use lib.Dec.{eqb, leb}
 use borrow.Author.Tests.{eq-eqb, ne-eqb}
 use Rattle.rules.specs.Basics.{need}
 use Rattle.rules.specs.Isolation.{classBy, weightFits}
-use Rattle.rules.proofs.Choices.{need-le}
+use Rattle.rules.proofs.Ground.Choices.{need-le}
 use Rattle.recordrules.specs.Rules.{weightRule}
 
 -- a weight of two bytes is at most 65,535

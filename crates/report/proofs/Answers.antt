@@ -14,20 +14,22 @@ use Rattle.rules.specs.Basics.{laid}
 use Rattle.rules.specs.Limits.{tablesLength, longest}
 use Rattle.rules.specs.File.{headerOf, setOf}
 use Rattle.rules.specs.Distance.{tableBytes}
-use Rattle.rules.specs.Judgement.{andThen, needRoom, check}
+use Rattle.rules.specs.Judgement.{andThen, check, needRoom}
 use Rattle.rules.specs.Report.{decimal, newline, reportText, refusalLine, printed}
 use Rattle.rules.specs.Answers.{accepted, tell, lengthTells}
-use Rattle.rules.specs.Entries.{onAccept, Promise, tablesEntry, reportEntry}
-use Rattle.rules.specs.Demands.{WithinLimits}
-use Rattle.rules.proofs.Choices.{then-ok, then-no, then-first, then-second}
-use Rattle.rules.proofs.Rows.{length-laid}
-use Rattle.rules.proofs.Determined.{tells-refused}
-use Rattle.rules.proofs.Answering.{tells-accepted}
-use Rattle.rules.proofs.Needs.{room-ok, room-long}
-use Rattle.rules.proofs.Held.{net-held}
-use Rattle.rules.proofs.Checked.{checked-set}
-use Rattle.rules.proofs.Reported.{report-fits}
-use Rattle.rules.proofs.Values.{longest-tables}
+use Rattle.rules.specs.Entries.Entry.{onAccept, Promise}
+use Rattle.rules.specs.Entries.Tables.{tablesEntry}
+use Rattle.rules.specs.Entries.Report.{reportEntry}
+use Rattle.rules.specs.Sets.{WithinLimits}
+use Rattle.rules.proofs.Ground.Choices.{then-ok, then-no, then-first, then-second}
+use Rattle.rules.proofs.Ground.Rows.{length-laid}
+use Rattle.rules.proofs.File.SetOfBytes.{net-held}
+use Rattle.rules.proofs.File.Checked.{checked-set}
+use Rattle.rules.proofs.Entries.Answering.{tells-accepted}
+use Rattle.rules.proofs.Entries.Determined.{tells-refused}
+use Rattle.rules.proofs.Entries.Report.{report-fits}
+use Rattle.rules.proofs.Entries.Values.{longest-tables}
+use Rattle.rules.proofs.Refusals.Needs.{room-ok, room-long}
 use Rattle.rooms.proofs.Longest as figures
 use Rattle.text.specs.Text.{Wrote, labelledRoom}
 use Rattle.detections.specs.Detection.{Ready}

@@ -10,8 +10,9 @@ use Rattle.rules.specs.declared.Network.{Network}
 use Rattle.rules.specs.declared.Kind.{Kind}
 use Rattle.rules.specs.Basics.{if_then_else_, flat}
 use Rattle.rules.specs.File.{Set, setOf}
-use Rattle.rules.specs.Report.{decimal, space, newline, letter, headerLine, detectionLine, detectionLines, lastLine, reportText}
-use Rattle.rules.proofs.Choices.{if-yes, if-no}
+use Rattle.rules.specs.Forwarding.{letter}
+use Rattle.rules.specs.Report.{decimal, space, newline, headerLine, detectionLine, detectionLines, lastLine, reportText}
+use Rattle.rules.proofs.Ground.Choices.{if-yes, if-no}
 use Rattle.detections.specs.declared.Seen.{Seen}
 use Rattle.text.specs.Text.{Wrote, field, numberRoom, fieldRoom, labelledRoom}
 use Rattle.detections.specs.Detection.{Ready, seenBy}

@@ -10,7 +10,8 @@ use Rattle.rules.specs.Limits.{longest}
 use Rattle.rules.specs.File.{setOf}
 use Rattle.rules.specs.Judgement.{check}
 use Rattle.rules.specs.Report.{refusalLine, printed}
-use Rattle.rules.specs.Entries.{Promise, tablesEntry}
+use Rattle.rules.specs.Entries.Entry.{Promise}
+use Rattle.rules.specs.Entries.Tables.{tablesEntry}
 use Rattle.text.specs.Text.{Wrote}
 use Rattle.report.specs.Lines.{refusalRoom}
 

@@ -6,7 +6,8 @@ use Rattle.rules.specs.declared.Kind.{Kind}
 use Rattle.rules.specs.Basics.{if_then_else_, flat}
 use Rattle.rules.specs.Limits.{largest}
 use Rattle.rules.specs.File.{Set}
-use Rattle.rules.specs.Report.{decimal, space, newline, letter, detectionLine}
+use Rattle.rules.specs.Forwarding.{letter}
+use Rattle.rules.specs.Report.{decimal, space, newline, detectionLine}
 use Rattle.text.specs.Text.{field, numberRoom, fieldRoom, labelledRoom}
 use Rattle.detections.specs.declared.Seen.{Seen}
 

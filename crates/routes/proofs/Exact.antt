@@ -10,15 +10,15 @@ use lib.Seq.{ext-getD}
 use Rattle.rules.specs.Basics.{upTo}
 use Rattle.rules.specs.Limits.{restrictedWeight}
 use Rattle.rules.specs.File.{Set}
-use Rattle.rules.specs.Isolation.{linkBetween, isolated, Class, classBy, class, weightBy, weightFrom, rowInForce, hopWeight, usable, neighbours}
-use Rattle.rules.specs.Distance.{far, distances, distance, totals, longer, nextHop}
-use Rattle.rules.specs.Demands.{AcceptedSet}
-use Rattle.rules.proofs.Choices.{if-yes}
-use Rattle.rules.proofs.Rows.{length-upTo, getD-upTo}
-use Rattle.rules.proofs.Links.{Ends, link-is, link-below, link-ends, ends-neighbours, class-ends, hop-neighbours, hop-out, hop-into, hop-plain, usable-hop, hop-usable, hop-normal, hop-light, restricted-bound}
-use Rattle.rules.proofs.Distances.{distance-far}
-use Rattle.rules.proofs.Reach.{some-weight, distance-self, distance-over}
-use Rattle.rules.proofs.NextHops.{next}
+use Rattle.rules.specs.Isolation.{linkBetween, neighbours, isolated, Class, classBy, class, rowInForce, weightBy, weightFrom, hopWeight, usable}
+use Rattle.rules.specs.Distance.{far, longer, totals, distances, distance, nextHop}
+use Rattle.rules.specs.Sets.{AcceptedSet}
+use Rattle.rules.proofs.Ground.Choices.{if-yes}
+use Rattle.rules.proofs.Ground.Rows.{length-upTo, getD-upTo}
+use Rattle.rules.proofs.Isolation.Links.{Ends, link-below, link-ends, ends-neighbours, class-ends, hop-neighbours, hop-out, hop-into, hop-plain, usable-hop, hop-usable, link-is, hop-normal, restricted-bound, hop-light}
+use Rattle.rules.proofs.Distance.Distances.{distance-far}
+use Rattle.rules.proofs.Distance.Reach.{some-weight, distance-self, distance-over}
+use Rattle.rules.proofs.Distance.NextHops.{next}
 use Rattle.routes.specs.Lanes.{column, entry, LowRows}
 use Rattle.routes.specs.Passes.{Net, netOf, Wired, settled}
 use Rattle.routes.specs.Costs.{costBy, cost, Distances}

@@ -11,7 +11,7 @@ use mir.Syntax.{w64}
 use mir.Val.{Fits}
 use borrow.Rule.Slice.PartMut.{same-len-mid}
 use Rattle.rules.specs.Basics.{upTo, flat}
-use Rattle.rules.proofs.Rows.{length-upTo, length-flat}
+use Rattle.rules.proofs.Ground.Rows.{length-upTo, length-flat}
 
 pub fill-none : (f : ℕ → ℕ) (d : List ℕ) → d ≡ upTo f 0 ++ drop 0 d
 unfolding upTo

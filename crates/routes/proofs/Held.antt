@@ -14,11 +14,12 @@ use Rattle.rules.specs.Basics.{if_then_else_, need, upTo}
 use Rattle.rules.specs.Limits.{restrictedWeight, rowWeights, homeRecords}
 use Rattle.rules.specs.File.{Set, rowStart}
 use Rattle.rules.specs.Isolation.{home, isolated, classBy, class, rowInForce}
-use Rattle.rules.specs.Demands.{AcceptedSet}
-use Rattle.rules.specs.Entries.{lists, setWith}
+use Rattle.rules.specs.Entries.Lists.{lists}
+use Rattle.rules.specs.Entries.Write.{setWith}
+use Rattle.rules.specs.Sets.{AcceptedSet}
 use Rattle.routes.specs.Listed.{listed}
-use Rattle.rules.proofs.Rows.{upTo-ext}
-use Rattle.rules.proofs.Homes.{home-low}
+use Rattle.rules.proofs.Ground.Rows.{upTo-ext}
+use Rattle.rules.proofs.Isolation.Homes.{home-low}
 use Rattle.routes.specs.Costs.{costBy, cost, rowOf, HoldsRow, costOf, costAt, Links}
 
 -- a home tells whether a node is isolated; no home is 0, so that none is isolated in topology 0

@@ -16,7 +16,7 @@ use mir.Syntax.{w32}
 use mir.Val.{Fits, toZ}
 use mir.Facts.{toZ-pos}
 use Rattle.rules.specs.Distance.{far}
-use Rattle.rules.proofs.Rows.{past}
+use Rattle.rules.proofs.Ground.Rows.{past}
 use Rattle.routes.specs.Lanes.{lane, lanes, LowRow, unitRow, column, entry, LowRows}
 
 pub same? : (m n : ℕ) → (m ≡ n) ⊎ (m ≡ n → ⊥)

@@ -11,9 +11,9 @@ use lib.Seq.{getD-set-other}
 use borrow.Author.Tests.{le-ltb, lt-ltb}
 use Rattle.rules.specs.Basics.{upTo}
 use Rattle.rules.specs.Distance.{far}
-use Rattle.rules.proofs.Choices.{if-yes, if-no}
-use Rattle.rules.proofs.Rows.{length-upTo, getD-upTo}
-use Rattle.rules.proofs.Rounds.{rank, rank-lt, rank-bound}
+use Rattle.rules.proofs.Ground.Choices.{if-yes, if-no}
+use Rattle.rules.proofs.Ground.Rows.{length-upTo, getD-upTo}
+use Rattle.rules.proofs.Distance.Rounds.{rank, rank-lt, rank-bound}
 use Rattle.routes.specs.Lanes.{lanes, LowRow, unitRow, entry, LowRows}
 use Rattle.routes.specs.Passes.{Net, direct, directLink, directLinks, lowerRow, through, pass, passes, settled}
 use Rattle.routes.proofs.Lanes.{same?, in-or-out, lane-set, lanes-at, unit-at, unit-own, unit-low, nothing-low, row-here, row-other, low-falls}

@@ -9,7 +9,7 @@ use lib.Seq.{getD-set-same, getD-set-other, ext-getD}
 use borrow.Author.Count.{below-more, below-none}
 use Rattle.rules.specs.Basics.{upTo}
 use Rattle.rules.specs.Distance.{far}
-use Rattle.rules.proofs.Rows.{length-upTo, getD-upTo}
+use Rattle.rules.proofs.Ground.Rows.{length-upTo, getD-upTo}
 use Rattle.routes.specs.Lanes.{lanes, unitRow, entry, LowRows}
 use Rattle.routes.specs.Passes.{netOf, Wired, direct, directLink, directLinks, Spot, lowerRow, through, pass, passes, settled}
 use Rattle.routes.proofs.Lanes.{low-falls}

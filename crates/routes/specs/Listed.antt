@@ -3,7 +3,8 @@ use mathlib.Core.List.{List}
 use Prim.Native.Nat.{ℕ}
 use Rattle.rules.specs.declared.Network.{Network}
 use Rattle.rules.specs.File.{Set}
-use Rattle.rules.specs.Entries.{lists, setWith}
+use Rattle.rules.specs.Entries.Lists.{lists}
+use Rattle.rules.specs.Entries.Write.{setWith}
 
 abbrev pub listed : Network → List ℕ → List ℕ → List ℕ → List ℕ → List ℕ → Set
 listed net a b weights homes rows = setWith net (lists a b weights homes rows)

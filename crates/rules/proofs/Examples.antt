@@ -5,12 +5,21 @@ use Rattle.rules.specs.Limits.{needCounts, restrictedWeight, rowWeights,
 use Rattle.rules.specs.File.{bytes2, headerBytes, linkBytes, homeBytes, rowStart, rowBytes, encode, two, headerOf, endA, endB, linkWeight, homeNode, homeTopology, rowTopology, rowWeight, setOf}
 use Rattle.rules.specs.Isolation.{joins, linkBetween, neighbours, home, isolated, backbone, word, isolatedWord, classBy, class, weightFits, rowInForce, weightBy, weightFrom, hopWeight, usable, normalHop, spread, reached, connected, restrictedLinks, twoLinks, topologyNumber}
 use Rattle.rules.specs.Distance.{longer, totals, distances, distance, onLeastPath, nextHop, isRestricted, candidate, nearest, alternate, tableBytes}
-use Rattle.rules.specs.Forwarding.{faultOf, failed, up, tablesOf, entryPlace, lentTables, moveOrDrop, changeTo, blocked, toward, step, alternateNumber, changeNumber, towardNumber, lookupNumber, hops, trail, stop, firstKind, changed, onward, afterStep, run}
+use Rattle.rules.specs.Forwarding.{faultOf, failed, up, tablesOf, entryPlace, lentTables, moveOrDrop, changeTo, blocked, toward, step, alternateNumber, changeNumber, towardNumber, lookupNumber, hops, trail, stop, firstKind, changed, letter, onward, afterStep, run, runUnder}
 use Rattle.rules.specs.Building.{withHomes, homeless, admits, firstTopology, homesAfter, firstFit, fits, highest, onNormal, filled, built, spared, buildNumber}
 use Rattle.rules.specs.Judgement.{refuse, andThen, inTurn, needMark, headerNumber, after, rises, linkNumber, homeNumber, rowWeightFits, rowNumber, records, judge, needSet, needGraph, topologies, check, needFailure, needPacket, needCap, needFit, sourceNumber, needSource, needRoom}
-use Rattle.rules.specs.Report.{digits, decimal, letter, headerLine, packetOf, kindOf, detectedLink, detection, runUnder, backupHops, plainHops, extraHops, detectionLine, detectionLines, lastLine, reportText, refusalLine, printed}
+use Rattle.rules.specs.Report.{digits, decimal, headerLine, packetOf, kindOf, detectedLink, detection, backupHops, plainHops, extraHops, detectionLine, detectionLines, lastLine, reportText, refusalLine, printed}
 use Rattle.rules.specs.Answers.{tell, verdictTells, headerValues, readTells, lengthTells, outcomeValue, packetValues, stepValues, stepTells, journeyValues, runTells}
-use Rattle.rules.specs.Entries.{onAccept, needLists, listsWith, readEntry, setWith, writeEntry, checkEntry, builtFrom, buildEntry, tablesEntry, lookupsOf, stepOf, stepEntry, runOf, runValues, runEntry, reportEntry}
+use Rattle.rules.specs.Entries.Entry.{onAccept}
+use Rattle.rules.specs.Entries.Lists.{needLists}
+use Rattle.rules.specs.Entries.Read.{listsWith, readEntry}
+use Rattle.rules.specs.Entries.Write.{setWith, writeEntry}
+use Rattle.rules.specs.Entries.Check.{checkEntry}
+use Rattle.rules.specs.Entries.Build.{builtFrom, buildEntry}
+use Rattle.rules.specs.Entries.Tables.{tablesEntry}
+use Rattle.rules.specs.Entries.Step.{lookupsOf, stepOf, stepEntry}
+use Rattle.rules.specs.Entries.Run.{runOf, runValues, runEntry}
+use Rattle.rules.specs.Entries.Report.{reportEntry}
 use Rattle.rules.specs.Examples.{triangle, ring, fullFour, triangleSet, ringSet, fullFourSet, rowOf, builtRow, checkedRow, ranRow, computed, expected, ExamplesHold}
 
 pub examples-hold : ExamplesHold

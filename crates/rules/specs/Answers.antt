@@ -18,7 +18,7 @@ use Rattle.rules.specs.declared.Outcome.{Outcome}
 use Rattle.rules.specs.declared.Outcome.the-variants as ended
 use Rattle.rules.specs.declared.RunAnswer.{RunAnswer}
 use Rattle.rules.specs.declared.RunAnswer.the-variants as ran
-use Rattle.rules.specs.Report.{letter}
+use Rattle.rules.specs.Forwarding.{letter}
 
 -- what a call tells: the values of an accepted one, or a refusal's number and place
 pub data Told : Type 0 where

@@ -7,10 +7,12 @@ use Rattle.rules.specs.declared.Failure.{Failure}
 use Rattle.rules.specs.declared.Failure.the-variants.{Nothing, Link, Node}
 use Rattle.rules.specs.Limits.{tablesLength, trailRoom}
 use Rattle.rules.specs.File.{Set, encode}
-use Rattle.rules.specs.Building.{filled}
 use Rattle.rules.specs.Forwarding.{trail}
+use Rattle.rules.specs.Building.{filled}
 use Rattle.rules.specs.Answers.{Told, accepted, refused, tell}
-use Rattle.rules.specs.Entries.{buildEntry, checkEntry, runEntry, builtFrom, runOf, BuildInput, RunInput, RunLent}
+use Rattle.rules.specs.Entries.Check.{checkEntry}
+use Rattle.rules.specs.Entries.Build.{BuildInput, builtFrom, buildEntry}
+use Rattle.rules.specs.Entries.Run.{RunInput, RunLent, runOf, runEntry}
 
 -- a graph alone: its header's counts, its links' ends and weights
 abbrev pub graph : ℕ → ℕ → ℕ → List ℕ → List ℕ → List ℕ → Set

@@ -15,6 +15,7 @@ use Rattle.rules.specs.declared.Step.the-variants.{Delivered, Moved, Dro
 use Rattle.rules.specs.declared.Outcome.{Outcome}
 use Rattle.rules.specs.declared.Outcome.the-variants as ended
 use Rattle.rules.specs.Basics.{if_then_else_, need}
+use Rattle.rules.specs.Limits.{mostHops}
 use Rattle.rules.specs.File.{Set}
 use Rattle.rules.specs.Isolation.{home, neighbours, linkBetween}
 use Rattle.rules.specs.Distance.{nextHop, alternate}
@@ -163,6 +164,13 @@ changed change.T = 1
 changed change.S = 1
 changed change.D = 1
 
+-- the letter of a kind: "T, S or D", and - where there was no change
+unfoldable pub letter : Kind → ℕ
+letter change.Unchanged = 45
+letter change.T = 84
+letter change.S = 83
+letter change.D = 68
+
 -- a hop, and then the rest of the run
 unfoldable pub onward : ℕ → Kind → Run → Run
 onward v kind r =
@@ -185,3 +193,7 @@ afterStep (Moved p kind) moved = moved p kind
 unfoldable pub run : Set → Tables → (ℕ → ℕ → Bool) → ℕ → Packet → Run
 run S tables on zero p = afterStep (step S tables on p) (λ q kind. stop p ended.UnderWay)
 run S tables on (suc h) p = afterStep (step S tables on p) (λ q kind. onward (q .place) kind (run S tables on h q))
+
+-- the run of a packet from u to t under this fault
+unfoldable pub runUnder : Set → Fault → ℕ → ℕ → Run
+runUnder S f u t = run S (tablesOf S) (up S f) (mostHops (S .net)) (packet u t 0)

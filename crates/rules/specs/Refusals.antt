@@ -14,8 +14,20 @@ use Rattle.rules.specs.Isolation.{neighbours, isolated, backbone, normal
 use Rattle.rules.specs.Forwarding.{faultOf, up, lentTables, packet}
 use Rattle.rules.specs.Report.{reportText}
 use Rattle.rules.specs.Answers.{refused}
-use Rattle.rules.specs.Entries.{Entry, Promise, Lists, readEntry, WriteInput, setWith, writeEntry, checkEntry, BuildInput, buildEntry, tablesEntry, StepInput, stepEntry, RunInput, RunLent, runEntry, reportEntry}
-use Rattle.rules.specs.Demands.{WithinLimits, at, MeetsRules, LongLists, Walk, Two, Removable, topologiesNeeded, withTopologies, InRange, Standing, LooksUp}
+use Rattle.rules.specs.Entries.Entry.{Entry, Promise}
+use Rattle.rules.specs.Entries.Lists.{Lists}
+use Rattle.rules.specs.Entries.Read.{readEntry}
+use Rattle.rules.specs.Entries.Write.{WriteInput, setWith, writeEntry}
+use Rattle.rules.specs.Entries.Check.{checkEntry}
+use Rattle.rules.specs.Entries.Build.{BuildInput, buildEntry}
+use Rattle.rules.specs.Entries.Tables.{tablesEntry}
+use Rattle.rules.specs.Entries.Step.{StepInput, stepEntry}
+use Rattle.rules.specs.Entries.Run.{RunInput, RunLent, runEntry}
+use Rattle.rules.specs.Entries.Report.{reportEntry}
+use Rattle.rules.specs.Sets.{WithinLimits, at, MeetsRules, Walk, Two}
+use Rattle.rules.specs.Demands.Two.{LongLists}
+use Rattle.rules.specs.Demands.Step.{InRange, Standing, LooksUp}
+use Rattle.rules.specs.Demands.Building.{Removable, topologiesNeeded, withTopologies}
 
 -- ---- 1 to 6: of bytes s, by the counts of their header
 

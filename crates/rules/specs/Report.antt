@@ -10,11 +10,10 @@ use Rattle.rules.specs.declared.Step.the-variants.{Delivered, Moved, Dro
 use Rattle.rules.specs.declared.Verdict.{Verdict}
 use Rattle.rules.specs.declared.Verdict.the-variants.{Accepted, Refused}
 use Rattle.rules.specs.Basics.{if_then_else_, flat}
-use Rattle.rules.specs.Limits.{mostHops}
 use Rattle.rules.specs.File.{Set}
 use Rattle.rules.specs.Isolation.{linkBetween}
 use Rattle.rules.specs.Distance.{nextHop}
-use Rattle.rules.specs.Forwarding.{Fault, nothing, link, up, tablesOf, packet, step, Run, hops, run}
+use Rattle.rules.specs.Forwarding.{nothing, link, up, tablesOf, packet, step, hops, letter, runUnder}
 
 -- ---- numbers and lines
 
@@ -33,13 +32,6 @@ space = 32 ∷ []
 
 abbrev pub newline : List ℕ
 newline = 10 ∷ []
-
--- "T, S or D", and - where there was no change
-unfoldable pub letter : Kind → ℕ
-letter change.Unchanged = 45
-letter change.T = 84
-letter change.S = 83
-letter change.D = 68
 
 -- "The first line of the report never varies": node via dest kind topology next hops extra
 unfoldable pub headerLine : List ℕ
@@ -66,10 +58,6 @@ detectedLink S u t = linkBetween S u (nextHop S 0 u t)
 -- what u does with a packet for t that it finds that link down for
 unfoldable pub detection : Set → ℕ → ℕ → Step
 detection S u t = step S (tablesOf S) (up S (link (detectedLink S u t))) (packet u t 0)
-
--- the run of a packet from u to t under this fault
-unfoldable pub runUnder : Set → Fault → ℕ → ℕ → Run
-runUnder S f u t = run S (tablesOf S) (up S f) (mostHops (S .net)) (packet u t 0)
 
 -- "hops from this node to the destination with that one link down"
 unfoldable pub backupHops : Set → ℕ → ℕ → ℕ

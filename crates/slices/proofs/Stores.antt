@@ -9,7 +9,7 @@ use lib.ListN.{length, set, drop}
 use lib.Seq.{sets, length-sets, sets-eq, set-out}
 use Rattle.rules.specs.Basics.{flat, laid}
 use Rattle.rules.specs.File.{bytes2}
-use Rattle.rules.proofs.Rows.{length-flat}
+use Rattle.rules.proofs.Ground.Rows.{length-flat}
 use Rattle.slices.specs.Stores.{put}
 
 pub length-put : (d : List ℕ) (at : ℕ) (l : List ℕ) → length (put d at l) ≡ length d

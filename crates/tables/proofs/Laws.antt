@@ -13,18 +13,22 @@ use Rattle.rules.specs.declared.Verdict.{Verdict}
 use Rattle.rules.specs.declared.Verdict.the-variants.{Accepted, Refused}
 use Rattle.rules.specs.declared.LengthAnswer.the-variants as long
 use Rattle.rules.specs.Basics.{need, upTo, flat, laid}
-use Rattle.rules.specs.Limits.{homeRecords, rowWeights, tablesLength}
-use Rattle.rules.specs.File.{Set, headerOf, setOf, endA, endB, linkWeight, homeTopology, rowWeight}
+use Rattle.rules.specs.Limits.{rowWeights, homeRecords, tablesLength}
+use Rattle.rules.specs.File.{Set, headerOf, endA, endB, linkWeight, homeTopology, rowWeight, setOf}
 use Rattle.rules.specs.Distance.{tableBytes}
 use Rattle.rules.specs.Judgement.{refuse, andThen, check, needRoom}
 use Rattle.rules.specs.Answers.{tell, lengthTells}
-use Rattle.rules.specs.Entries.{Lists, lists, setWith, Promise, onAccept, tablesEntry}
-use Rattle.rules.specs.Demands.{AcceptedSet, WithinLimits}
-use Rattle.rules.proofs.Choices.{need-ok, refuse-zero, then-first, then-second}
-use Rattle.rules.proofs.Rows.{length-upTo, length-flat, prefix-long}
-use Rattle.rules.proofs.Held.{net-held, homes-all}
-use Rattle.rules.proofs.Checked.{checked-set}
-use Rattle.rules.proofs.Lent.{bytes-long}
+use Rattle.rules.specs.Entries.Entry.{onAccept, Promise}
+use Rattle.rules.specs.Entries.Lists.{Lists, lists}
+use Rattle.rules.specs.Entries.Write.{setWith}
+use Rattle.rules.specs.Entries.Tables.{tablesEntry}
+use Rattle.rules.specs.Sets.{WithinLimits, AcceptedSet}
+use Rattle.rules.proofs.Ground.Choices.{need-ok, refuse-zero, then-first, then-second}
+use Rattle.rules.proofs.Ground.Rows.{prefix-long, length-upTo, length-flat}
+use Rattle.rules.proofs.File.SetOfBytes.{net-held}
+use Rattle.rules.proofs.File.Checked.{checked-set}
+use Rattle.rules.proofs.Isolation.HomesAndRows.{homes-all}
+use Rattle.rules.proofs.Forwarding.LentTables.{bytes-long}
 use Rattle.reader.specs.Reading.{rowOf, listsOf, Room}
 use Rattle.tables.specs.Parts.{Exact, Wide, Held, tablesVerdict}
 

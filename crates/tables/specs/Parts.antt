@@ -11,7 +11,8 @@ use Rattle.rules.specs.Basics.{need}
 use Rattle.rules.specs.Limits.{rowWeights, tablesLength, largest}
 use Rattle.rules.specs.File.{headerOf, setOf}
 use Rattle.rules.specs.Judgement.{refuse, andThen, check}
-use Rattle.rules.specs.Entries.{Lists, setWith}
+use Rattle.rules.specs.Entries.Lists.{Lists}
+use Rattle.rules.specs.Entries.Write.{setWith}
 
 -- lists that are exactly as long as a set's counts say
 pub record Exact (h : Network) (d : Lists) : Type 0 where

@@ -17,7 +17,9 @@ ghost use Rattle.rules.specs.Limits.{tablesLength, largest};
 ghost use Rattle.rules.specs.File.{headerOf, setOf};
 ghost use Rattle.rules.specs.Distance.{tableBytes};
 ghost use Rattle.rules.specs.Judgement.{check};
-ghost use Rattle.rules.specs.Entries.{lists, Promise, tablesEntry};
+ghost use Rattle.rules.specs.Entries.Entry.{Promise};
+ghost use Rattle.rules.specs.Entries.Lists.{lists};
+ghost use Rattle.rules.specs.Entries.Tables.{tablesEntry};
 ghost use Rattle.tables.specs.Parts.{Exact, Wide, Held, tablesVerdict};
 
 // ---- from a file to its tables, by lists

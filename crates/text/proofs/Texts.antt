@@ -8,8 +8,8 @@ use lib.ListN.{length, getD, take, length-append}
 use lib.Seq.{take-suc, take-all}
 use Rattle.rules.specs.Basics.{laid}
 use Rattle.rules.specs.Report.{digits, decimal, space}
-use Rattle.rules.proofs.Fits.{digits-one, digits-more}
-use Rattle.rules.proofs.ChangeKinds.{letter-none, letter-t, letter-s, letter-d}
+use Rattle.rules.proofs.Forwarding.ChangeKinds.{letter-none, letter-t, letter-s, letter-d}
+use Rattle.rules.proofs.Report.TextLength.{digits-one, digits-more}
 use Rattle.slices.specs.Stores.{put}
 use Rattle.slices.proofs.Stores.{put-then, put-laid}
 use Rattle.text.specs.Text.{Wrote, field, numberRoom, fieldRoom, labelRoom, labelledRoom}

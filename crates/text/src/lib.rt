@@ -7,7 +7,8 @@ ghost use mathlib.Core.Path.{_≡_};
 ghost use mathlib.Core.List.{[], _∷_, _++_};
 ghost use Prim.Native.Nat.{_+_, _≤_, _<_};
 ghost use lib.ListN.{length};
-ghost use Rattle.rules.specs.Report.{digits, decimal, letter};
+ghost use Rattle.rules.specs.Forwarding.{letter};
+ghost use Rattle.rules.specs.Report.{digits, decimal};
 ghost use Rattle.text.specs.Text.{Wrote, field, numberRoom, fieldRoom, labelRoom, labelledRoom};
 
 // One byte.

@@ -15,7 +15,7 @@ use Rattle.rules.specs.declared.Outcome.{Outcome}
 use Rattle.rules.specs.declared.Outcome.the-variants as ended
 use Rattle.rules.specs.Basics.{laid}
 use Rattle.rules.specs.Forwarding.{Run, hops, trail, stop, firstKind, onward, afterStep, run}
-use Rattle.rules.proofs.Rows.{laid-more}
+use Rattle.rules.proofs.Ground.Rows.{laid-more}
 use Rattle.slices.specs.Stores.{put}
 use Rattle.slices.proofs.Stores.{length-put, put-inside}
 use Rattle.hop.specs.Hop.{stepAt}

@@ -9,8 +9,8 @@ use native.Mathlib.Omega.{arith}
 use lib.Dec.{eqb}
 use lib.Pow.{pow-lt, ones-split, high, ones-lt}
 use lib.Bits.{bitAnd, bitOr}
-use lib.Count.{trailingZeros, trailing-le}
-use Rattle.words.specs.Word.{has, only, adding, removing, firsts, put}
+use lib.Count.{trailing-le}
+use Rattle.words.specs.Word.{has, only, adding, removing, firsts, lowestIn, put}
 use Rattle.words.proofs.Members.{has-shift}
 
 pub has-at : (w v : ℕ) → eqb (w / 2 ^ v % 2) 1 ≡ has w v
@@ -38,8 +38,9 @@ firsts-at n l h =
     let e : n + (32 - n) ≡ 32 = omega arith in
     ap (λ (x : ℕ). x / 2 ^ (32 - n)) (sym (sym (ones-split n (32 - n)) ∙ ap (λ (j : ℕ). 2 ^ j - 1) e)) ∙ high (2 ^ n - 1) (32 - n) (ones-lt (32 - n))
 
-pub lowest-byte : (w : ℕ) → Fits w8 (trailingZeros 32 w)
-lowest-byte w = let l = trailing-le 32 w in record { fits = omega arith }
+pub lowest-byte : (w z : ℕ) → z ≡ lowestIn w → Fits w8 z
+unfolding lowestIn
+lowest-byte w z e = record { fits = omega (arith, trailing-le 32 w) }
 
 pub put-in : (t : Bool) (w v r : ℕ) → r ≡ adding w v → t ≡ true → r ≡ put t w v
 unfolding put

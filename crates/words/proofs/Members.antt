@@ -12,7 +12,7 @@ use lib.Bits.{bitAnd, bitOr, and-shr, or-shr, and-mod, or-mod, or-lt, and-le-l}
 use borrow.Author.Tests.{eqb-true, eqb-false, ltb-true, lt-ltb, le-ltb}
 use Rattle.rules.specs.Basics.{if_then_else_}
 use Rattle.rules.specs.Isolation.{word}
-use Rattle.rules.proofs.Choices.{if-yes, if-no}
+use Rattle.rules.proofs.Ground.Choices.{if-yes, if-no}
 use Rattle.words.specs.Word.{has, both, either, minus, only, adding, removing, firsts, put}
 
 two-pos : 0 < 2

@@ -10,7 +10,7 @@ use lib.Count.{ones, onesIn, ones-step, trailingZeros, trailing-le, under}
 use borrow.Author.Tests.{ltb-true, ltb-false, lt-ltb}
 use Rattle.rules.specs.Basics.{count, lowest}
 use Rattle.rules.specs.Isolation.{word}
-use Rattle.rules.proofs.Numbers.{bit, count-none, count-more, count-ext, lowest-none, lowest-one}
+use Rattle.rules.proofs.Ground.Numbers.{bit, count-none, count-more, count-ext, lowest-none, lowest-one}
 use Rattle.words.specs.Word.{has, lowestIn}
 use Rattle.words.proofs.Members.{has-none, has-ext, has-word, word-below}
 

@@ -70,11 +70,18 @@ pub fn size(w: u32) -> u32
     u32::count_ones(w)
 }
 
-// The lowest member, by the trailing zeros; 32 where there is none.
+// The trailing zeros of a word: the number of its lowest member.
+fn zeros_below(w: u32) -> u32
+    ensures { λ r. ⌜ r ≡ lowestIn w ⌝ }
+{
+    u32::trailing_zeros(w)
+}
+
+// The lowest member; 32 where there is none.
 pub fn lowest(w: u32) -> u8
     ensures { λ r. ⌜ r ≡ lowestIn w ⌝ }
 {
-    u32::trailing_zeros(w) as u8
+    zeros_below(w) as u8
 }
 
 // With v in it where the test held.

@@ -8,11 +8,12 @@ use native.Mathlib.Omega.{arith}
 use lib.ListN.{length, getD, length-append}
 use Rattle.rules.specs.declared.Network.{Network}
 use Rattle.rules.specs.Basics.{flat}
-use Rattle.rules.specs.Limits.{homeRecords, rowWeights, rowLength, linkPlace, homePlace, rowPlace}
+use Rattle.rules.specs.Limits.{rowWeights, rowLength, homeRecords, linkPlace, homePlace, rowPlace}
 use Rattle.rules.specs.File.{Set, bytes2, headerBytes, linkBytes, homeBytes, rowStart, rowBytes, encode}
-use Rattle.rules.specs.Entries.{lists, setWith}
-use Rattle.rules.proofs.Rows.{length-flat}
-use Rattle.rules.proofs.Encoded.{header-long, links-long, homes-long}
+use Rattle.rules.specs.Entries.Lists.{lists}
+use Rattle.rules.specs.Entries.Write.{setWith}
+use Rattle.rules.proofs.Ground.Rows.{length-flat}
+use Rattle.rules.proofs.File.Encoded.{header-long, links-long, homes-long}
 use Rattle.slices.specs.Stores.{put}
 use Rattle.slices.proofs.Stores.{put-then, Storing, storing-none, storing-done, storing-more}
 use Rattle.layout.specs.Records.{linkRecord, homeRecord, homeOf, rowHead}

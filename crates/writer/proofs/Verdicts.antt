@@ -17,11 +17,13 @@ use Rattle.rules.specs.Limits.{needCounts, fileLength, longest}
 use Rattle.rules.specs.File.{encode}
 use Rattle.rules.specs.Judgement.{refuse, andThen, judge, needRoom}
 use Rattle.rules.specs.Answers.{tell, lengthTells}
-use Rattle.rules.specs.Entries.{Promise, onAccept, Lists, lists, needLists, setWith, writeEntry}
-use Rattle.rules.proofs.Choices.{need-ok, refuse-zero, then-ok, then-no, then-first, then-second}
-use Rattle.rules.proofs.Encoded.{encode-long}
-use Rattle.rules.proofs.Records.{counts-ok}
-use Rattle.rules.proofs.Accepted.{length-bound}
+use Rattle.rules.specs.Entries.Entry.{onAccept, Promise}
+use Rattle.rules.specs.Entries.Lists.{Lists, lists, needLists}
+use Rattle.rules.specs.Entries.Write.{setWith, writeEntry}
+use Rattle.rules.proofs.Ground.Choices.{need-ok, refuse-zero, then-ok, then-no, then-first, then-second}
+use Rattle.rules.proofs.File.Encoded.{encode-long}
+use Rattle.rules.proofs.File.Records.{counts-ok}
+use Rattle.rules.proofs.File.Accepted.{length-bound}
 use Rattle.slices.specs.Stores.{put}
 use Rattle.slices.proofs.Stores.{put-laid}
 use Rattle.needs.specs.Numbers.{listsRule, listsVerdict}

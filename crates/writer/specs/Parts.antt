@@ -12,7 +12,7 @@ use Rattle.rules.specs.Limits.{needCounts, rowWeights}
 use Rattle.rules.specs.File.{bytes2, rowStart}
 use Rattle.rules.specs.Judgement.{refuse, andThen, judge}
 use Rattle.rules.specs.Answers.{tell, lengthTells}
-use Rattle.rules.specs.Entries.{onAccept}
+use Rattle.rules.specs.Entries.Entry.{onAccept}
 use Rattle.layout.specs.Records.{linkRecord, rowHead}
 use Rattle.needs.specs.Numbers.{listsVerdict}
 

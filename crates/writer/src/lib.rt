@@ -18,7 +18,9 @@ ghost use lib.ListN.{length};
 ghost use Rattle.rules.specs.declared.Verdict.the-variants.{Accepted};
 ghost use Rattle.rules.specs.Limits.{fileLength};
 ghost use Rattle.rules.specs.File.{encode};
-ghost use Rattle.rules.specs.Entries.{Promise, lists, setWith, writeEntry};
+ghost use Rattle.rules.specs.Entries.Entry.{Promise};
+ghost use Rattle.rules.specs.Entries.Lists.{lists};
+ghost use Rattle.rules.specs.Entries.Write.{setWith, writeEntry};
 ghost use Rattle.writer.specs.Parts.{givenVerdict, Copied};
 
 // What is asked before anything is laid: counts within their limits (3), lists that are long enough (1).

@@ -2,7 +2,7 @@ use mathlib.Core.Path.{_≡_}
 use Prim.Native.Nat.{_-_, _≤_}
 use native.Mathlib.Omega.{arith}
 use borrow.Author.Needs.{needs}
-use Rattle.rules.proofs.Choices.{turn-none}
+use Rattle.rules.proofs.Ground.Choices.{turn-none}
 use Rattle.rules.specs.declared.Verdict.the-variants.{Accepted}
 use Rattle.rules.specs.Limits.{homePlace}
 use Rattle.rules.specs.Judgement.{inTurn, homeNumber}
@@ -38,11 +38,8 @@ add-byte-2 c = omega arith
 byte-requires-3 : tie.Need-byte-requires-3 Inv-loop μ-loop
 byte-requires-3 c κs = omega arith
 
-add-byte-3 : tie.Need-add-byte-3 Inv-loop μ-loop
-add-byte-3 c = omega arith
-
-byte-requires-4 : tie.Need-byte-requires-4 Inv-loop μ-loop
-byte-requires-4 c κs = omega arith
+home-topology-requires : tie.Need-home-topology-requires Inv-loop μ-loop
+home-topology-requires c κs = omega arith
 
 home-requires : tie.Need-home-requires Inv-loop μ-loop
 home-requires c κs = omega arith
@@ -75,8 +72,7 @@ homes-spec =
     byte-requires-2
     add-byte-2
     byte-requires-3
-    add-byte-3
-    byte-requires-4
+    home-topology-requires
     home-requires
     returns
     add-v

@@ -1,5 +1,5 @@
 use borrow.Author.Needs.{needs}
-use Rattle.rules.proofs.Choices.{then-on, then-stop, turn-count}
+use Rattle.rules.proofs.Ground.Choices.{then-on, then-stop, turn-count}
 use Rattle.judgement.specs.Turns.{homesThenRows}
 use Rattle.judgement.proofs.homes_then_rows.Statement.{statement}
 use Rattle.judgement.proofs.homes_then_rows.Tie as tie

@@ -1,5 +1,5 @@
 use borrow.Author.Needs.{needs}
-use Rattle.rules.proofs.Choices.{numbers}
+use Rattle.rules.proofs.Ground.Choices.{numbers}
 use Rattle.needs.specs.Numbers.{listsRule}
 use Rattle.needs.proofs.lists_number.Statement.{statement}
 use Rattle.needs.proofs.lists_number.Tie as tie

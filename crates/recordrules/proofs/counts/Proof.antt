@@ -1,4 +1,4 @@
-use Rattle.rules.proofs.Choices.{numbers}
+use Rattle.rules.proofs.Ground.Choices.{numbers}
 use Rattle.rules.specs.Limits.{needCounts}
 use Rattle.recordrules.proofs.Weights.{need-two-bytes}
 use Rattle.recordrules.proofs.counts.Statement.{statement}

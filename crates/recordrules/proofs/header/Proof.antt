@@ -1,4 +1,4 @@
-use Rattle.rules.proofs.Choices.{numbers}
+use Rattle.rules.proofs.Ground.Choices.{numbers}
 use Rattle.recordrules.specs.Rules.{headerRule}
 use Rattle.recordrules.proofs.header.Statement.{statement}
 use Rattle.recordrules.proofs.header.Tie as tie

@@ -1,4 +1,4 @@
-use Rattle.rules.proofs.Choices.{numbers}
+use Rattle.rules.proofs.Ground.Choices.{numbers}
 use Rattle.recordrules.specs.Rules.{homeRule}
 use Rattle.recordrules.proofs.home.Statement.{statement}
 use Rattle.recordrules.proofs.home.Tie as tie

@@ -1,4 +1,4 @@
-use Rattle.rules.proofs.Choices.{numbers}
+use Rattle.rules.proofs.Ground.Choices.{numbers}
 use Rattle.recordrules.proofs.length.Statement.{statement}
 use Rattle.recordrules.proofs.length.Tie as tie
 

@@ -1,4 +1,4 @@
-use Rattle.rules.proofs.Choices.{numbers}
+use Rattle.rules.proofs.Ground.Choices.{numbers}
 use Rattle.recordrules.specs.Rules.{linkRule}
 use Rattle.recordrules.proofs.link.Statement.{statement}
 use Rattle.recordrules.proofs.link.Tie as tie

@@ -1,4 +1,4 @@
-use Rattle.rules.proofs.Choices.{numbers}
+use Rattle.rules.proofs.Ground.Choices.{numbers}
 use Rattle.recordrules.specs.Rules.{rowRule}
 use Rattle.recordrules.proofs.row.Statement.{statement}
 use Rattle.recordrules.proofs.row.Tie as tie

@@ -1,4 +1,4 @@
-use Rattle.rules.proofs.Choices.{numbers}
+use Rattle.rules.proofs.Ground.Choices.{numbers}
 use Rattle.recordrules.proofs.Weights.{weight-first, weight-normal, weight-second}
 use Rattle.recordrules.proofs.weight.Statement.{statement}
 use Rattle.recordrules.proofs.weight.Tie as tie

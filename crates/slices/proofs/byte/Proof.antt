@@ -1,5 +1,5 @@
 use borrow.Author.Needs.{needs}
-use Rattle.rules.proofs.Rows.{past}
+use Rattle.rules.proofs.Ground.Rows.{past}
 use Rattle.slices.proofs.byte.Statement.{statement}
 use Rattle.slices.proofs.byte.Tie as tie
 

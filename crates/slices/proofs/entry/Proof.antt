@@ -1,5 +1,5 @@
 use borrow.Author.Needs.{needs}
-use Rattle.rules.proofs.Rows.{past}
+use Rattle.rules.proofs.Ground.Rows.{past}
 use Rattle.slices.proofs.entry.Statement.{statement}
 use Rattle.slices.proofs.entry.Tie as tie
 

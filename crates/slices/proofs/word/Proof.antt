@@ -1,4 +1,4 @@
-use Rattle.rules.proofs.Rows.{past}
+use Rattle.rules.proofs.Ground.Rows.{past}
 use borrow.Author.Needs.{needs}
 use Rattle.slices.proofs.word.Statement.{statement}
 use Rattle.slices.proofs.word.Tie as tie

@@ -1,5 +1,5 @@
 use borrow.Author.Needs.{needs}
-use Rattle.rules.proofs.Sizes.{sizes}
+use Rattle.rules.proofs.Ground.Sizes.{sizes}
 use Rattle.rules.proofs.Network.file_length.Statement.{statement}
 use Rattle.rules.proofs.Network.file_length.Tie as tie
 

@@ -1,4 +1,4 @@
-use Rattle.rules.proofs.Sizes.{sizes}
+use Rattle.rules.proofs.Ground.Sizes.{sizes}
 use borrow.Author.Needs.{needs}
 use Rattle.rules.proofs.Network.table_entries.Statement.{statement}
 use Rattle.rules.proofs.Network.table_entries.Tie as tie

@@ -2,7 +2,7 @@ use Prim.Native.Nat.{_-_}
 use native.Mathlib.Omega.{arith}
 use borrow.Author.Needs.{needs}
 use Rattle.rules.specs.Basics.{count}
-use Rattle.rules.specs.Demands.{at}
+use Rattle.rules.specs.Sets.{at}
 use Rattle.slices.proofs.Stores.{Storing}
 use Rattle.writer.proofs.Stores.{lays}
 use Rattle.writer.proofs.lay.weights.Statement.{statement}

@@ -1,0 +1,52 @@
+-- Demand 2 of the entry `read`: what it accepts, and what it then answers and leaves.
+use mathlib.Core.Path.{_≡_, sym, ap, subst, _∙_}
+use mathlib.Core.List.{List}
+use Prim.Native.Nat.{ℕ}
+use Rattle.rules.specs.declared.Network.{Network}
+use Rattle.rules.specs.declared.Verdict.the-variants.{Accepted}
+use Rattle.rules.specs.declared.ReadAnswer.the-variants as read
+use Rattle.rules.specs.File.{Set, headerOf, setOf}
+use Rattle.rules.specs.Entries.Lists.{Lists, needLists}
+use Rattle.rules.specs.Entries.Read.{listsWith, readEntry}
+use Rattle.rules.specs.Sets.{Bytes}
+use Rattle.rules.specs.Demands.Form.{AcceptsExactly, ThenGives, IsRead}
+use Rattle.rules.specs.Demands.Two.{LongLists, ReadMeets, ReadGives}
+use Rattle.rules.proofs.Ground.Choices.{then-ok, then-first, then-second}
+use Rattle.rules.proofs.File.SetOfBytes.{net-held}
+use Rattle.rules.proofs.File.FileOf.{file-judged, file-header, file-set, judged-file}
+use Rattle.rules.proofs.Entries.Answering.{told, left, accepts, front-laid, read-values, read-is}
+use Rattle.rules.proofs.Refusals.Needs.{lists-long, long-lists}
+
+read-meets : (S : Set) (s : List ℕ) (d : Lists) → ReadMeets S s d → readEntry .verdict s d ≡ Accepted
+unfolding readEntry
+read-meets S s d M =
+    then-ok _ _ (file-judged S s (M .file)) ∙ ap (λ (h : Network). needLists 14 h d) (file-header S s (M .file)) ∙ long-lists 14 (S .net) d (M .room)
+
+pub read-accepts : AcceptsExactly readEntry IsRead Bytes ReadMeets
+unfolding readEntry
+read-accepts = accepts readEntry IsRead Bytes ReadMeets read-values (λ s d r e. (headerOf s, read-is r (headerOf s) e)) read-asked read-meets
+  where
+    read-asked : (s : List ℕ) (d : Lists) → Bytes s → readEntry .verdict s d ≡ Accepted → (S : Set) × ReadMeets S s d
+    read-asked s d small e = (
+      setOf s,
+      record {
+        file = judged-file s small (then-first _ _ e);
+        room = subst (λ (h : Network). LongLists h d) (sym (net-held s)) (lists-long 13 (headerOf s) d (then-second _ _ e));
+      },
+    )
+
+pub read-gives : ThenGives readEntry ReadMeets ReadGives
+unfolding readEntry listsWith
+read-gives S s before after r P M =
+    let e = read-meets S s before M in
+    let T = file-set S s (M .file) in
+    let lent : after ≡ listsWith S before = left readEntry s before after r P e ∙ ap (λ (x : Set). listsWith x before) T in
+    subst (λ (x : Lists). ReadGives S s before r x) (sym lent)
+    (record {
+      answer = read-is r (headerOf s) (told readEntry s before after r P e) ∙ ap read.Read (file-header S s (M .file));
+      a = front-laid (S .a) (before .a);
+      b = front-laid (S .b) (before .b);
+      weights = front-laid (S .weights) (before .weights);
+      homes = front-laid (S .homes) (before .homes);
+      rows = front-laid (S .rows) (before .rows);
+    })

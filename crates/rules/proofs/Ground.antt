@@ -1,0 +1,6 @@
+-- Laws of the words that are not 01's: tests in order, numbers below n, lists by index, and square tables as bytes.
+pub mod Choices
+pub mod Numbers
+pub mod Sizes
+pub mod Rows
+pub mod Square
