@@ -33,8 +33,8 @@ use Rattle.rules.proofs.Refusals.Needs.{room-ok, room-long}
 use Rattle.rooms.proofs.Longest as figures
 use Rattle.text.specs.Text.{Wrote, labelledRoom}
 use Rattle.detections.specs.Detection.{Ready}
-use Rattle.report.specs.Lines.{textRoom, refusalRoom}
-use Rattle.report.specs.Answer.{Made, Says, it, line, Printed}
+use Rattle.lines.specs.Lines.{textRoom}
+use Rattle.report.specs.Answer.{refusalRoom, Made, Says, it, line, Printed}
 use Rattle.text.proofs.Texts.{wrote-laid, wrote-then}
 
 -- ---- room for the longest tables, and for the longest report

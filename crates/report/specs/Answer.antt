@@ -1,7 +1,7 @@
 -- The tables that an answer of the entry `tables` goes with, and the text that the program prints.
 use mathlib.Core.Path.{_≡_}
 use mathlib.Core.List.{List}
-use Prim.Native.Nat.{ℕ, _≤_}
+use Prim.Native.Nat.{ℕ, _+_, _*_, _≤_}
 use lib.ListN.{length}
 use Rattle.rules.specs.declared.LengthAnswer.{LengthAnswer}
 use Rattle.rules.specs.declared.LengthAnswer.the-variants as long
@@ -12,14 +12,17 @@ use Rattle.rules.specs.Judgement.{check}
 use Rattle.rules.specs.Report.{refusalLine, printed}
 use Rattle.rules.specs.Entries.Entry.{Promise}
 use Rattle.rules.specs.Entries.Tables.{tablesEntry}
-use Rattle.text.specs.Text.{Wrote}
-use Rattle.report.specs.Lines.{refusalRoom}
+use Rattle.text.specs.Text.{Wrote, labelledRoom}
 
 -- what the entry `tables` answered of file s, and the tables it left in room for the longest
 pub record Made (s : List ℕ) (answer : LengthAnswer) (tables : List ℕ) : Type 0 where
   pub before : List ℕ
   pub long : longest .tables ≡ length before
   pub kept : Promise tablesEntry s before answer tables
+
+-- the line of a refusal: two labels with their numbers, and the newline
+abbrev pub refusalRoom : ℕ
+refusalRoom = 2 * labelledRoom + 1
 
 -- what is said of an answer: the text that the report left, or else the refusal's line
 pub data Says (answer : LengthAnswer) (old : List ℕ) (r : ℕ) (new : List ℕ) : Type 0 where

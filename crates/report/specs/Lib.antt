@@ -1,3 +1,2 @@
--- The report's text in the shape in which the code writes it.
-pub mod Lines
+-- What the report answers, and what its program prints.
 pub mod Answer

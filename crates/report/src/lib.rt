@@ -1,8 +1,6 @@
 // The report on a set: what each router does, and how far its packets go, where the link to its next hop is down; one line for each
 // node and each other destination, so that both ends of every link stand in it. The entry `report` takes every file; its promise
 // fixes the text, byte for byte, or the refusal. `print` promises the text that the report program prints, the refusal's line too.
-pub mod lines; // lines.rt: the lines and the whole text
-
 use layout::header;
 use lines::write;
 use rules::LengthAnswer;
@@ -17,8 +15,7 @@ ghost use Rattle.rules.specs.Report.{refusalLine};
 ghost use Rattle.rules.specs.Entries.Entry.{Promise};
 ghost use Rattle.rules.specs.Entries.Report.{reportEntry};
 ghost use Rattle.text.specs.Text.{Wrote};
-ghost use Rattle.report.specs.Lines.{refusalRoom};
-ghost use Rattle.report.specs.Answer.{Made, Says, Printed};
+ghost use Rattle.report.specs.Answer.{Made, Says, Printed, refusalRoom};
 
 // The report by the tables that were made, or the refusal that came in their place.
 fn report_by(made: LengthAnswer, file: &[u8], tables: &[u8], text: &mut [u8]) -> LengthAnswer

@@ -1,7 +1,7 @@
 use borrow.Author.Needs.{needs}
-use Rattle.report.proofs.Wholes.{wholes}
-use Rattle.report.proofs.lines.line.Statement.{statement}
-use Rattle.report.proofs.lines.line.Tie as tie
+use Rattle.lines.proofs.Wholes.{wholes}
+use Rattle.lines.proofs.line.Statement.{statement}
+use Rattle.lines.proofs.line.Tie as tie
 
 head-requires : tie.Need-head-requires
 head-requires c κs = search needs

@@ -1,4 +1,5 @@
-// The lines of the report, and the whole text.
+// The lines of the report, and its whole text: the header line, a line for each node and each other destination, the count of the
+// detections. `write` promises the text of 01's report on an accepted file, byte for byte as far as the room reaches, and its length.
 use detections::Seen;
 use detections::detect;
 use rules::Kind;
@@ -14,7 +15,7 @@ ghost use Rattle.rules.specs.File.{setOf};
 ghost use Rattle.rules.specs.Report.{headerLine, detectionLines, reportText};
 ghost use Rattle.text.specs.Text.{Wrote};
 ghost use Rattle.detections.specs.Detection.{Ready, Pair};
-ghost use Rattle.report.specs.Lines.{headOf, changeOf, tailOf, lineOf, lineFor, nodeLines, lastOf, headRoom, changeRoom, tailRoom, lineRoom, nodeRoom, linesRoom, headerRoom, lastRoom, textRoom};
+ghost use Rattle.lines.specs.Lines.{headOf, changeOf, tailOf, lineOf, lineFor, nodeLines, lastOf, headRoom, changeRoom, tailRoom, lineRoom, nodeRoom, linesRoom, headerRoom, lastRoom, textRoom};
 
 // ---- a line
 

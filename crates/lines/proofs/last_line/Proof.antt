@@ -1,7 +1,7 @@
-use Rattle.report.proofs.Wholes.{wholes}
+use Rattle.lines.proofs.Wholes.{wholes}
 use borrow.Author.Needs.{needs}
-use Rattle.report.proofs.lines.last_line.Statement.{statement}
-use Rattle.report.proofs.lines.last_line.Tie as tie
+use Rattle.lines.proofs.last_line.Statement.{statement}
+use Rattle.lines.proofs.last_line.Tie as tie
 
 slice-aggregate-labelled : tie.Need-slice-aggregate-labelled
 slice-aggregate-labelled c = search needs

@@ -1,7 +1,7 @@
 use borrow.Author.Needs.{needs}
-use Rattle.report.proofs.Wholes.{wholes}
-use Rattle.report.proofs.lines.write.Statement.{statement}
-use Rattle.report.proofs.lines.write.Tie as tie
+use Rattle.lines.proofs.Wholes.{wholes}
+use Rattle.lines.proofs.write.Statement.{statement}
+use Rattle.lines.proofs.write.Tie as tie
 
 header-requires : tie.Need-header-requires
 header-requires c κs = search needs

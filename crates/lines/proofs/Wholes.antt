@@ -16,7 +16,7 @@ use Rattle.rules.proofs.Ground.Choices.{if-yes, if-no}
 use Rattle.detections.specs.declared.Seen.{Seen}
 use Rattle.text.specs.Text.{Wrote, field, numberRoom, fieldRoom, labelledRoom}
 use Rattle.detections.specs.Detection.{Ready, seenBy}
-use Rattle.report.specs.Lines.{headOf, changeOf, tailOf, lineOf, lineFor, nodeLines, lastOf, headRoom, changeRoom, tailRoom, lineRoom, nodeRoom, linesRoom, headerRoom, lastRoom, textRoom}
+use Rattle.lines.specs.Lines.{headOf, changeOf, tailOf, lineOf, lineFor, nodeLines, lastOf, headRoom, changeRoom, tailRoom, lineRoom, nodeRoom, linesRoom, headerRoom, lastRoom, textRoom}
 use Rattle.text.proofs.Texts.{wrote-none, wrote-then, wrote-as}
 use Rattle.detections.proofs.Seens.{same-net}
 

@@ -1,7 +1,7 @@
 use Rattle.rules.specs.Report.{headerLine}
 use borrow.Author.Needs.{needs}
-use Rattle.report.proofs.lines.header.Statement.{statement}
-use Rattle.report.proofs.lines.header.Tie as tie
+use Rattle.lines.proofs.header.Statement.{statement}
+use Rattle.lines.proofs.header.Tie as tie
 
 slice-aggregate-copy : tie.Need-slice-aggregate-copy
 slice-aggregate-copy c = search needs

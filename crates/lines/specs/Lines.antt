@@ -71,7 +71,3 @@ lastRoom = labelledRoom + 1
 
 abbrev pub textRoom : ℕ
 textRoom = headerRoom + linesRoom + lastRoom
-
--- the line of a refusal: two labels with their numbers, and the newline
-abbrev pub refusalRoom : ℕ
-refusalRoom = 2 * labelledRoom + 1

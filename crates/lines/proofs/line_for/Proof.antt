@@ -1,7 +1,7 @@
 use borrow.Author.Needs.{needs}
-use Rattle.report.proofs.Wholes.{wholes}
-use Rattle.report.proofs.lines.line_for.Statement.{statement}
-use Rattle.report.proofs.lines.line_for.Tie as tie
+use Rattle.lines.proofs.Wholes.{wholes}
+use Rattle.lines.proofs.line_for.Statement.{statement}
+use Rattle.lines.proofs.line_for.Tie as tie
 
 returns : tie.Need-returns
 returns c = search wholes

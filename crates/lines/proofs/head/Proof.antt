@@ -1,7 +1,7 @@
 use borrow.Author.Needs.{needs}
-use Rattle.report.proofs.Wholes.{wholes}
-use Rattle.report.proofs.lines.head.Statement.{statement}
-use Rattle.report.proofs.lines.head.Tie as tie
+use Rattle.lines.proofs.Wholes.{wholes}
+use Rattle.lines.proofs.head.Statement.{statement}
+use Rattle.lines.proofs.head.Tie as tie
 
 field-requires : tie.Need-field-requires
 field-requires c κs = search needs

@@ -1,7 +1,7 @@
 use borrow.Author.Needs.{needs}
-use Rattle.report.proofs.Wholes.{wholes}
-use Rattle.report.proofs.lines.change.Statement.{statement}
-use Rattle.report.proofs.lines.change.Tie as tie
+use Rattle.lines.proofs.Wholes.{wholes}
+use Rattle.lines.proofs.change.Statement.{statement}
+use Rattle.lines.proofs.change.Tie as tie
 
 letter-requires : tie.Need-letter-requires
 letter-requires c κs = search needs
