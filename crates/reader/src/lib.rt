@@ -19,9 +19,9 @@ ghost use Rattle.rules.specs.Basics.{upTo, flat, laid};
 ghost use Rattle.rules.specs.Limits.{rowWeights};
 ghost use Rattle.rules.specs.File.{endA, endB, linkWeight, homeTopology, rowWeight};
 ghost use Rattle.rules.specs.Entries.Entry.{Promise};
-ghost use Rattle.rules.specs.Entries.Lists.{lists};
+ghost use Rattle.rules.specs.Entries.Lists.{lists, LongLists};
 ghost use Rattle.rules.specs.Entries.Read.{readEntry};
-ghost use Rattle.reader.specs.Reading.{byteAt, twoAt, rowOf, readVerdict, Room, listsOf};
+ghost use Rattle.reader.specs.Reading.{byteAt, twoAt, rowOf, readVerdict, listsOf};
 
 // ---- one list
 
@@ -127,7 +127,7 @@ pub fn lists_into(
     homes: &mut [u8],
     rows: &mut [u16],
 )
-    requires { ⌜ Room net (lists (now a) (now b) (now weights) (now homes) (now rows)) ⌝ }
+    requires { ⌜ LongLists net (lists (now a) (now b) (now weights) (now homes) (now rows)) ⌝ }
     ensures { λ _. ⌜ lists (now (a .exit)) (now (b .exit)) (now (weights .exit)) (now (homes .exit)) (now (rows .exit)) ≡ listsOf (now (file .entry)) net (lists (now (a .entry)) (now (b .entry)) (now (weights .entry)) (now (homes .entry)) (now (rows .entry))) ⌝ }
 {
     let m = net.m as usize;
