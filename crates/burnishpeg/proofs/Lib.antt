@@ -1,4 +1,2 @@
--- Answers as words; the report into any room; what is read from a word.
-pub mod Laws
+pub mod Entries
 pub mod Texts
-pub mod ReadBack

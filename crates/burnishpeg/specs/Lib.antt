@@ -1,2 +1,2 @@
--- Answers as words.
-pub mod Words
+-- The report laid into any room.
+pub mod Laying

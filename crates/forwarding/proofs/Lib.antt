@@ -1,5 +1,2 @@
-pub mod Graph
-pub mod Hops
 pub mod Stepping
-pub mod Trips
 pub mod Running

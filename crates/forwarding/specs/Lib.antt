@@ -1,3 +1,3 @@
--- The forwarding rule as the code reads it: from a file's bytes and tables that are lent.
-pub mod Hop
-pub mod Trip
+-- The two entries on packets.
+pub mod Steps
+pub mod Runs

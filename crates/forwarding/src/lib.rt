@@ -1,22 +1,16 @@
-// Forwarding by 01, section 'Forwarding': one hop of a packet, by the tables that are lent, as they are; and the whole run from
-// a source to a destination under one failure, by the tables that it makes itself. The entries `step` and `run` take every
-// input; their promises fix the answer, every byte of the trail and every byte of the tables.
-pub mod hop; // hop.rt: one hop by value
-pub mod travel; // travel.rt: the run by lent tables
-
+// Forwarding by 01, section 'Forwarding': one hop of a packet (`hop`), by the tables that are lent, as they are; and the whole run
+// (`travel`) from a source to a destination under one failure, by the tables that it makes itself. The entries `step` and `run` take
+// every input; their promises fix the answer, every byte of the trail and every byte of the tables.
 use hop::lookup_number;
 use hop::take;
-use housefile::header;
-use housefile::judge;
-use needs::most_hops;
+use judgement::judge;
+use layout::header;
 use needs::need_packet;
 use needs::need_room;
 use needs::need_set;
 use needs::need_source;
 use needs::refuse;
-use needs::tables_length;
 use needs::then;
-use needs::trail_room;
 use rules::Failure;
 use rules::Journey;
 use rules::Network;
@@ -30,8 +24,9 @@ ghost use Rattle.rules.specs.File.{headerOf};
 ghost use Rattle.rules.specs.Entries.Entry.{Promise};
 ghost use Rattle.rules.specs.Entries.Step.{stepEntry};
 ghost use Rattle.rules.specs.Entries.Run.{runEntry};
-ghost use Rattle.forwarding.specs.Trip.{runInput, runLent, runVerdict, Ready, Ran};
-ghost use Rattle.forwarding.specs.Hop.{Judged, stepInput, stepRest, stepVerdict};
+ghost use Rattle.hop.specs.Hop.{Judged};
+ghost use Rattle.forwarding.specs.Steps.{stepInput, stepRest, stepVerdict};
+ghost use Rattle.forwarding.specs.Runs.{runInput, runLent, runVerdict, Ready, Ran};
 
 // ---- step
 
@@ -43,7 +38,7 @@ fn step_rest(file: &[u8], net: Network, tables: &[u8], packet: Packet, failure: 
     let set = need_set(net);
     let range = need_packet(net, packet, failure);
     let source = need_source(packet.place, failure);
-    let room = need_room(tables_length(net), tables.len());
+    let room = need_room(net.tables_length(), tables.len());
     let number = lookup_number(file, net, tables, failure, packet);
     let lookups = refuse(number, 0);
     then(set, then(range, then(source, then(room, lookups))))
@@ -94,8 +89,8 @@ fn run_verdict(
     };
     let range = need_packet(net, start, failure);
     let from = need_source(source, failure);
-    let room = need_room(tables_length(net), tables);
-    let nodes = need_room(trail_room(net), trail);
+    let room = need_room(net.tables_length(), tables);
+    let nodes = need_room(net.trail_room(), trail);
     then(set, then(range, then(from, then(room, nodes))))
 }
 
@@ -112,9 +107,9 @@ fn run_in(
     requires { ⌜ Ready (now file) start (now tables) (now trail) ⌝ }
     ensures { λ r. ⌜ Ran (now (file .entry)) start failure (runLent (now (tables .entry)) (now (trail .entry))) r (runLent (now (tables .exit)) (now (trail .exit))) ⌝ }
 {
-    let long = tables_length(net);
+    let long = net.tables_length();
     tables::fill(file, net, &mut tables[..long]);
-    travel(file, net, tables, failure, start, most_hops(net), trail)
+    travel(file, net, tables, failure, start, net.most_hops(), trail)
 }
 
 // A packet's run from a source to its destination, with something down or nothing.

@@ -1,7 +1,7 @@
 -- From the answer of the entry `tables` to that of `report`: the room for the longest tables is always enough, so both refuse the same files.
 use mathlib.Core.Path.{_≡_, refl, sym, ap, _∙_}
 use mathlib.Core.List.{List, [], _∷_, _++_}
-use Prim.Native.Nat.{ℕ, _≤_}
+use Prim.Native.Nat.{ℕ, _+_, _≤_}
 use native.Mathlib.Nat.{zero-add}
 use native.Mathlib.Omega.{arith}
 use lib.ListN.{length}
@@ -11,7 +11,7 @@ use Rattle.rules.specs.declared.Verdict.the-variants.{Accepted, Refused}
 use Rattle.rules.specs.declared.LengthAnswer.{LengthAnswer}
 use Rattle.rules.specs.declared.LengthAnswer.the-variants as long
 use Rattle.rules.specs.Basics.{laid}
-use Rattle.rules.specs.Limits.{tablesLength}
+use Rattle.rules.specs.Limits.{tablesLength, longest}
 use Rattle.rules.specs.File.{headerOf, setOf}
 use Rattle.rules.specs.Distance.{tableBytes}
 use Rattle.rules.specs.Judgement.{andThen, check, needRoom}
@@ -25,17 +25,23 @@ use Rattle.rules.proofs.Ground.Choices.{then-ok, then-no, then-first, then-seco
 use Rattle.rules.proofs.Ground.Rows.{length-laid}
 use Rattle.rules.proofs.File.SetOfBytes.{net-held}
 use Rattle.rules.proofs.File.Checked.{checked-set}
-use Rattle.rules.proofs.Report.TextLength.{report-longest}
 use Rattle.rules.proofs.Entries.Answering.{tells-accepted}
 use Rattle.rules.proofs.Entries.Determined.{tells-refused}
+use Rattle.rules.proofs.Entries.Report.{report-fits}
 use Rattle.rules.proofs.Entries.Values.{longest-tables}
 use Rattle.rules.proofs.Refusals.Needs.{room-ok, room-long}
-use Rattle.report.specs.Text.{Wrote}
-use Rattle.report.specs.Lines.{Ready}
+use Rattle.rooms.proofs.Longest as figures
+use Rattle.text.specs.Text.{Wrote, labelledRoom}
+use Rattle.detections.specs.Detection.{Ready}
+use Rattle.report.specs.Lines.{textRoom, refusalRoom}
 use Rattle.report.specs.Answer.{Made, Says, it, line, Printed}
-use Rattle.report.proofs.Texts.{wrote-laid, wrote-then}
+use Rattle.text.proofs.Texts.{wrote-laid, wrote-then}
 
 -- ---- room for the longest tables, and for the longest report
+
+-- the array that a report is written into, by its type
+pub array-long : (text : List ℕ) → length text ≡ 22875 → longest .report ≡ length text
+array-long text e = figures.longest-report ∙ sym e
 
 module _ (s : List ℕ) where
   -- room that is enough for every accepted file leaves the verdict to the check
@@ -47,17 +53,17 @@ module _ (s : List ℕ) where
       go (Refused number place) c = then-no (check s) (needRoom long lent) number place c ∙ sym c
 
   -- room for the longest tables is enough for every file
-  tables-verdict : (before : List ℕ) → length before ≡ 34816 → andThen (check s) (needRoom (tablesLength (headerOf s)) before) ≡ check s
+  tables-verdict : (before : List ℕ) → longest .tables ≡ length before → andThen (check s) (needRoom (tablesLength (headerOf s)) before) ≡ check s
   tables-verdict before e = only-check (tablesLength (headerOf s)) before fit
     where
       fit : check s ≡ Accepted → tablesLength (headerOf s) ≤ length before
       fit c =
           let w : WithinLimits (headerOf s) = rw (net-held s) at (checked-set s c .rules .limits) in
-          omega (arith, longest-tables (headerOf s) w)
+          omega (arith, longest-tables (headerOf s) w, figures.longest-tables)
 
   -- room for the longest report is enough for every file
-  pub report-verdict : (old : List ℕ) → length old ≡ 22875 → andThen (check s) (needRoom (length (reportText (setOf s))) old) ≡ check s
-  report-verdict old e = only-check (length (reportText (setOf s))) old (λ c. omega (arith, report-longest (setOf s) (checked-set s c)))
+  pub report-verdict : (old : List ℕ) → longest .report ≡ length old → andThen (check s) (needRoom (length (reportText (setOf s))) old) ≡ check s
+  report-verdict old e = only-check (length (reportText (setOf s))) old (λ c. omega (arith, report-fits (setOf s) (checked-set s c)))
 
   -- ---- an accepted file
 
@@ -76,7 +82,7 @@ module _ (s : List ℕ) where
         most = rw (h, ← net-held s) (A .nodes .1);
       }
 
-  pub reported : (answer : LengthAnswer) (tables old new : List ℕ) (bytes r : ℕ) → Made s answer tables → answer ≡ long.Length bytes → Wrote old 0 (reportText (setOf s)) 152657 r new → length old ≡ 22875
+  pub reported : (answer : LengthAnswer) (tables old new : List ℕ) (bytes r : ℕ) → Made s answer tables → answer ≡ long.Length bytes → Wrote old 0 (reportText (setOf s)) textRoom r new → longest .report ≡ length old
       → Promise reportEntry s old (long.Length r) new
   unfolding reportEntry lengthTells tell onAccept
   reported answer tables old new bytes r M d w e =
@@ -84,12 +90,12 @@ module _ (s : List ℕ) where
       let v : andThen (check s) (needRoom (length (reportText (setOf s))) old) ≡ Accepted = report-verdict old e ∙ c in
       record {
         answer = rw v (ap (λ (x : ℕ). accepted (x ∷ [])) (w .on ∙ zero-add (length (reportText (setOf s)))));
-        lent = rw v (wrote-laid old new (reportText (setOf s)) 152657 r w (omega (arith, report-longest (setOf s) (checked-set s c))));
+        lent = rw v (wrote-laid old new (reportText (setOf s)) textRoom r w (omega (arith, report-fits (setOf s) (checked-set s c))));
       }
 
   -- ---- a refused file
 
-  pub made-refused : (answer : LengthAnswer) (tables old : List ℕ) (number place : ℕ) → Made s answer tables → answer ≡ long.Refused number place → length old ≡ 22875 → Promise reportEntry s old (long.Refused number place) old
+  pub made-refused : (answer : LengthAnswer) (tables old : List ℕ) (number place : ℕ) → Made s answer tables → answer ≡ long.Refused number place → longest .report ≡ length old → Promise reportEntry s old (long.Refused number place) old
   unfolding tablesEntry reportEntry lengthTells tell onAccept
   made-refused answer tables old number place M e l =
       let t : andThen (check s) (needRoom (tablesLength (headerOf s)) (M .before)) ≡ Refused number place = tells-refused _ (tablesLength (headerOf s) ∷ []) number place (sym (ap lengthTells e) ∙ M .kept .answer) in
@@ -98,12 +104,12 @@ module _ (s : List ℕ) where
 
 -- ---- what the program prints
 
-pub refusal-of : (old o₁ o₂ new : List ℕ) (p q r number place : ℕ) → Wrote old 0 ((114 ∷ 101 ∷ 102 ∷ 117 ∷ 115 ∷ 101 ∷ 100 ∷ 32 ∷ []) ++ decimal number) 36 p o₁
-    → Wrote o₁ p ((32 ∷ 97 ∷ 116 ∷ 32 ∷ []) ++ decimal place) 36 q o₂ → Wrote o₂ q (10 ∷ []) 1 r new → Wrote old 0 (refusalLine number place) 73 r new
+pub refusal-of : (old o₁ o₂ new : List ℕ) (p q r number place : ℕ) → Wrote old 0 ((114 ∷ 101 ∷ 102 ∷ 117 ∷ 115 ∷ 101 ∷ 100 ∷ 32 ∷ []) ++ decimal number) labelledRoom p o₁
+    → Wrote o₁ p ((32 ∷ 97 ∷ 116 ∷ 32 ∷ []) ++ decimal place) labelledRoom q o₂ → Wrote o₂ q (10 ∷ []) 1 r new → Wrote old 0 (refusalLine number place) refusalRoom r new
 unfolding refusalLine
 refusal-of old o₁ o₂ new p q r number place a b c =
-    wrote-then old o₁ new 0 p r 36 37 73 ((114 ∷ 101 ∷ 102 ∷ 117 ∷ 115 ∷ 101 ∷ 100 ∷ 32 ∷ []) ++ decimal number) (((32 ∷ 97 ∷ 116 ∷ 32 ∷ []) ++ decimal place) ++ newline) a
-    (wrote-then o₁ o₂ new p q r 36 1 37 ((32 ∷ 97 ∷ 116 ∷ 32 ∷ []) ++ decimal place) newline b c (omega arith)) (omega arith)
+    wrote-then old o₁ new 0 p r labelledRoom (labelledRoom + 1) refusalRoom ((114 ∷ 101 ∷ 102 ∷ 117 ∷ 115 ∷ 101 ∷ 100 ∷ 32 ∷ []) ++ decimal number) (((32 ∷ 97 ∷ 116 ∷ 32 ∷ []) ++ decimal place) ++ newline) a
+    (wrote-then o₁ o₂ new p q r labelledRoom 1 (labelledRoom + 1) ((32 ∷ 97 ∷ 116 ∷ 32 ∷ []) ++ decimal place) newline b c (omega arith)) (omega arith)
 
 module _ (s : List ℕ) where
   -- a report keeps the length of its room
@@ -117,35 +123,45 @@ module _ (s : List ℕ) where
           ap length m ∙ length-laid (reportText (setOf s)) old r
       go (Refused number place) e m = ap length m
 
-  pub printed-of : (old mid new : List ℕ) (answer : LengthAnswer) (r : ℕ) → Promise reportEntry s old answer mid → Says answer mid r new → length mid ≡ 22875 → Printed s old r new
+  -- the bytes of an answer lie in the room
+  pub report-inside : (old mid : List ℕ) (answer : LengthAnswer) (bytes : ℕ) → Promise reportEntry s old answer mid → answer ≡ long.Length bytes → bytes ≤ length mid
+  unfolding reportEntry lengthTells tell
+  report-inside old mid answer bytes P e =
+      let v : andThen (check s) (needRoom (length (reportText (setOf s))) old) ≡ Accepted = tells-accepted _ (length (reportText (setOf s)) ∷ []) (bytes ∷ []) (sym (ap lengthTells e) ∙ P .answer) in
+      let a : accepted (bytes ∷ []) ≡ accepted (length (reportText (setOf s)) ∷ []) = sym (ap lengthTells e) ∙ P .answer ∙ ap (λ (x : Verdict). tell x (length (reportText (setOf s)) ∷ [])) v in
+      let z : bytes ≡ length (reportText (setOf s)) = cc in
+      let r = room-long (length (reportText (setOf s))) old (then-second (check s) (needRoom (length (reportText (setOf s))) old) v) in
+      omega (arith, same-room old mid answer P)
+
+  pub printed-of : (old mid new : List ℕ) (answer : LengthAnswer) (r : ℕ) → Promise reportEntry s old answer mid → Says answer mid r new → longest .report ≡ length mid → Printed s old r new
   unfolding reportEntry lengthTells tell onAccept printed
   printed-of old mid new answer r P (it e m) l =
-      let o = sym (same-room old mid answer P) ∙ l in
+      let o = l ∙ same-room old mid answer P in
       let v : andThen (check s) (needRoom (length (reportText (setOf s))) old) ≡ Accepted = tells-accepted _ (length (reportText (setOf s)) ∷ []) (r ∷ []) (sym (ap lengthTells e) ∙ P .answer) in
       let c : check s ≡ Accepted = sym (report-verdict s old o) ∙ v in
       let a : accepted (r ∷ []) ≡ accepted (length (reportText (setOf s)) ∷ []) = sym (ap lengthTells e) ∙ P .answer ∙ ap (λ (x : Verdict). tell x (length (reportText (setOf s)) ∷ [])) v in
       let z : r ≡ length (reportText (setOf s)) = cc in
-      record { is = m ∙ P .lent ∙ rw (v, c); long = z ∙ rw c; fits = omega (arith, ap length m, report-longest (setOf s) (checked-set s c)) }
+      record { is = m ∙ P .lent ∙ rw (v, c); long = z ∙ rw c; fits = omega (arith, ap length m, report-fits (setOf s) (checked-set s c)) }
   printed-of old mid new answer r P (line number place e w) l =
-      let o = sym (same-room old mid answer P) ∙ l in
+      let o = l ∙ same-room old mid answer P in
       let v : andThen (check s) (needRoom (length (reportText (setOf s))) old) ≡ Refused number place = tells-refused _ (length (reportText (setOf s)) ∷ []) number place (sym (ap lengthTells e) ∙ P .answer) in
       let c : check s ≡ Refused number place = sym (report-verdict s old o) ∙ v in
       let m : mid ≡ old = P .lent ∙ ap (λ (x : Verdict). onAccept x (laid (reportText (setOf s)) old) old) v in
       let z : r ≡ length (refusalLine number place) = w .on ∙ zero-add (length (refusalLine number place)) in
       record {
-        is = wrote-laid mid new (refusalLine number place) 73 r w (omega (arith, w .few)) ∙ ap (laid (refusalLine number place)) m ∙ rw c;
+        is = wrote-laid mid new (refusalLine number place) refusalRoom r w (omega (arith, w .few, figures.longest-report)) ∙ ap (laid (refusalLine number place)) m ∙ rw c;
         long = z ∙ rw c;
-        fits = omega (arith, w .few, w .long);
+        fits = omega (arith, w .few, w .long, figures.longest-report);
       }
 
 pub says-report : (answer : LengthAnswer) (old : List ℕ) (bytes : ℕ) → answer ≡ long.Length bytes → Says answer old bytes old
 says-report answer old bytes e = it e refl
 
-pub says-refusal : (answer : LengthAnswer) (old new : List ℕ) (number place r : ℕ) → answer ≡ long.Refused number place → Wrote old 0 (refusalLine number place) 73 r new → Says answer old r new
+pub says-refusal : (answer : LengthAnswer) (old new : List ℕ) (number place r : ℕ) → answer ≡ long.Refused number place → Wrote old 0 (refusalLine number place) refusalRoom r new → Says answer old r new
 says-refusal answer old new number place r e w = line number place e w
 
 -- the whole result, and every byte of the text
 pub one-print : (s old new new′ : List ℕ) (r r′ : ℕ) → Printed s old r new → Printed s old r′ new′ → (r ≡ r′) × (new ≡ new′)
 one-print s old new new′ r r′ p q = (p .long ∙ sym (q .long), p .is ∙ sym (q .is))
 
-pub ruleset answers = (made-ready, reported, made-refused, refusal-of, printed-of, says-report, says-refusal)
+pub ruleset answers = (array-long, made-ready, reported, made-refused, refusal-of, printed-of, says-report, says-refusal)

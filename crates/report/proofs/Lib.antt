@@ -1,4 +1,2 @@
-pub mod Texts
-pub mod Seens
 pub mod Wholes
 pub mod Answers

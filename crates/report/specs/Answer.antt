@@ -6,23 +6,25 @@ use lib.ListN.{length}
 use Rattle.rules.specs.declared.LengthAnswer.{LengthAnswer}
 use Rattle.rules.specs.declared.LengthAnswer.the-variants as long
 use Rattle.rules.specs.Basics.{laid}
+use Rattle.rules.specs.Limits.{longest}
 use Rattle.rules.specs.File.{setOf}
 use Rattle.rules.specs.Judgement.{check}
 use Rattle.rules.specs.Report.{refusalLine, printed}
 use Rattle.rules.specs.Entries.Entry.{Promise}
 use Rattle.rules.specs.Entries.Tables.{tablesEntry}
-use Rattle.report.specs.Text.{Wrote}
+use Rattle.text.specs.Text.{Wrote}
+use Rattle.report.specs.Lines.{refusalRoom}
 
 -- what the entry `tables` answered of file s, and the tables it left in room for the longest
 pub record Made (s : List ℕ) (answer : LengthAnswer) (tables : List ℕ) : Type 0 where
   pub before : List ℕ
-  pub long : length before ≡ 34816
+  pub long : longest .tables ≡ length before
   pub kept : Promise tablesEntry s before answer tables
 
 -- what is said of an answer: the text that the report left, or else the refusal's line
 pub data Says (answer : LengthAnswer) (old : List ℕ) (r : ℕ) (new : List ℕ) : Type 0 where
   it : answer ≡ long.Length r → new ≡ old → Says answer old r new
-  line : (number place : ℕ) → answer ≡ long.Refused number place → Wrote old 0 (refusalLine number place) 73 r new → Says answer old r new
+  line : (number place : ℕ) → answer ≡ long.Refused number place → Wrote old 0 (refusalLine number place) refusalRoom r new → Says answer old r new
 
 -- what the program prints of file s stands at the front of the text, r bytes
 pub record Printed (s old : List ℕ) (r : ℕ) (new : List ℕ) : Type 0 where

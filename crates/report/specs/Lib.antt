@@ -1,4 +1,3 @@
 -- The report's text in the shape in which the code writes it.
-pub mod Text
 pub mod Lines
 pub mod Answer

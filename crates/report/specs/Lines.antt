@@ -1,53 +1,15 @@
--- What a detecting node sees, its line, and the lines one after the other.
-use mathlib.Core.Path.{_≡_}
+-- The line of a detection, the lines one after the other, and the last line.
 use mathlib.Core.List.{List, [], _∷_, _++_}
-use Prim.Native.Nat.{ℕ, _-_, _*_, _≤_, _<_}
+use Prim.Native.Nat.{ℕ, _+_, _-_, _*_}
 use lib.Dec.{eqb}
-use Rattle.rules.specs.declared.Network.{Network}
-use Rattle.rules.specs.declared.Packet.{Packet}
-use Rattle.rules.specs.declared.Failure.{Failure}
-use Rattle.rules.specs.declared.Verdict.the-variants.{Accepted}
 use Rattle.rules.specs.declared.Kind.{Kind}
-use Rattle.rules.specs.Basics.{if_then_else_, flat, laid}
-use Rattle.rules.specs.File.{Set, headerOf, setOf}
-use Rattle.rules.specs.Distance.{nextHop, tableBytes}
-use Rattle.rules.specs.Forwarding.{hops, letter}
-use Rattle.rules.specs.Judgement.{check}
-use Rattle.rules.specs.Report.{decimal, space, newline, packetOf, kindOf, detection, backupHops, extraHops, detectionLine}
-use Rattle.forwarding.specs.Trip.{runAt}
-use Rattle.report.specs.Text.{field}
-use Rattle.report.specs.declared.seen.Seen.{Seen}
-
--- an accepted file s, its header, and its own tables
-pub record Ready (s : List ℕ) (net : Network) (tables : List ℕ) : Type 0 where
-  pub accepted : check s ≡ Accepted
-  pub header : net ≡ headerOf s
-  pub before : List ℕ
-  pub made : tables ≡ laid (tableBytes (setOf s)) before
-  pub least : 3 ≤ net .n
-  pub most : net .n ≤ 32
-
--- a node and a destination of the file
-pub record Pair (net : Network) (u t : ℕ) : Type 0 where
-  pub node : u < net .n
-  pub end : t < net .n
-
--- the hops of the run from p by these tables, of at most so many
-pub record Counted (s tables : List ℕ) (f : Failure) (p : Packet) (most r : ℕ) : Type 0 where
-  pub is : r ≡ hops (runAt s tables f most p)
-  pub few : r ≤ most
-
--- what node u sees of a packet for t where the link to its next hop is down
-unfoldable pub seenBy : Set → ℕ → ℕ → Seen
-seenBy S u t =
-    record {
-      via = nextHop S 0 u t;
-      kind = kindOf (detection S u t);
-      topology = packetOf (detection S u t) .topology;
-      next = packetOf (detection S u t) .place;
-      hops = backupHops S u t;
-      extra = extraHops S u t;
-    }
+use Rattle.rules.specs.Basics.{if_then_else_, flat}
+use Rattle.rules.specs.Limits.{largest}
+use Rattle.rules.specs.File.{Set}
+use Rattle.rules.specs.Forwarding.{letter}
+use Rattle.rules.specs.Report.{decimal, space, newline, detectionLine}
+use Rattle.text.specs.Text.{field, numberRoom, fieldRoom, labelledRoom}
+use Rattle.detections.specs.declared.Seen.{Seen}
 
 -- ---- a line in three parts
 
@@ -76,3 +38,40 @@ nodeLines S u = flat (lineFor S u) (S .net .n)
 -- ---- the last line, `detections` and the count, for n nodes
 unfoldable pub lastOf : ℕ → List ℕ
 lastOf n = 100 ∷ 101 ∷ 116 ∷ 101 ∷ 99 ∷ 116 ∷ 105 ∷ 111 ∷ 110 ∷ 115 ∷ 32 ∷ (decimal (n * (n - 1)) ++ newline)
+
+-- ---- how many bytes are allowed for, at most
+
+-- the three parts of a line: its first three fields; the letter, a space and two fields; a field, a number and the newline
+abbrev pub headRoom : ℕ
+headRoom = 3 * fieldRoom
+
+abbrev pub changeRoom : ℕ
+changeRoom = 2 + 2 * fieldRoom
+
+abbrev pub tailRoom : ℕ
+tailRoom = fieldRoom + numberRoom + 1
+
+-- a line
+abbrev pub lineRoom : ℕ
+lineRoom = headRoom + changeRoom + tailRoom
+
+-- a node's lines, and the lines of all nodes
+abbrev pub nodeRoom : ℕ
+nodeRoom = largest .n * lineRoom
+
+abbrev pub linesRoom : ℕ
+linesRoom = largest .n * nodeRoom
+
+-- the header line, which never varies; the last line; the whole text
+abbrev pub headerRoom : ℕ
+headerRoom = 44
+
+abbrev pub lastRoom : ℕ
+lastRoom = labelledRoom + 1
+
+abbrev pub textRoom : ℕ
+textRoom = headerRoom + linesRoom + lastRoom
+
+-- the line of a refusal: two labels with their numbers, and the newline
+abbrev pub refusalRoom : ℕ
+refusalRoom = 2 * labelledRoom + 1

@@ -1,11 +1,9 @@
 // The report on a set: what each router does, and how far its packets go, where the link to its next hop is down; one line for each
 // node and each other destination, so that both ends of every link stand in it. The entry `report` takes every file; its promise
 // fixes the text, byte for byte, or the refusal. `print` promises the text that the report program prints, the refusal's line too.
-pub mod text; // text.rt: bytes, numbers and letters at a cursor
-pub mod seen; // seen.rt: what a detecting node sees
 pub mod lines; // lines.rt: the lines and the whole text
 
-use housefile::header;
+use layout::header;
 use lines::write;
 use rules::LengthAnswer;
 use rules::Network;
@@ -14,23 +12,18 @@ use text::labelled;
 use text::put;
 ghost use mathlib.Core.Path.{_≡_};
 ghost use lib.ListN.{length};
+ghost use Rattle.rules.specs.Limits.{longest};
 ghost use Rattle.rules.specs.Report.{refusalLine};
 ghost use Rattle.rules.specs.Entries.Entry.{Promise};
 ghost use Rattle.rules.specs.Entries.Report.{reportEntry};
-ghost use Rattle.report.specs.Text.{Wrote};
+ghost use Rattle.text.specs.Text.{Wrote};
+ghost use Rattle.report.specs.Lines.{refusalRoom};
 ghost use Rattle.report.specs.Answer.{Made, Says, Printed};
-
-// Room for the longest tables.
-fn tables_room() -> [u8; Network::LONGEST_TABLES]
-    ensures { λ r. ⌜ length r ≡ 34816 ⌝ }
-{
-    [0; Network::LONGEST_TABLES]
-}
 
 // The report by the tables that were made, or the refusal that came in their place.
 fn report_by(made: LengthAnswer, file: &[u8], tables: &[u8], text: &mut [u8]) -> LengthAnswer
     requires { ⌜ Made (now file) made (now tables) ⌝ }
-    requires { ⌜ length (now text) ≡ 22875 ⌝ }
+    requires { ⌜ longest .report ≡ length (now text) ⌝ }
     ensures { λ r. ⌜ Promise reportEntry (now (file .entry)) (now (text .entry)) r (now (text .exit)) ⌝ }
 {
     match made {
@@ -43,7 +36,7 @@ fn report_by(made: LengthAnswer, file: &[u8], tables: &[u8], text: &mut [u8]) ->
 pub fn report(file: &[u8], text: &mut [u8; Network::LONGEST_REPORT]) -> LengthAnswer
     ensures { λ r. ⌜ Promise reportEntry (now (file .entry)) (now (text .entry)) r (now (text .exit)) ⌝ }
 {
-    let mut room = tables_room();
+    let mut room = rooms::tables();
     let made = tables(file, &mut room);
     report_by(made, file, &room, text)
 }
@@ -52,7 +45,7 @@ pub fn report(file: &[u8], text: &mut [u8; Network::LONGEST_REPORT]) -> LengthAn
 
 // The line of a refusal.
 fn refusal(text: &mut [u8], refused: u8, place: usize) -> usize
-    ensures { λ r. ⌜ Wrote (now (text .entry)) 0 (refusalLine refused place) 73 r (now (text .exit)) ⌝ }
+    ensures { λ r. ⌜ Wrote (now (text .entry)) 0 (refusalLine refused place) refusalRoom r (now (text .exit)) ⌝ }
 {
     let at = labelled(text, 0, b"refused ", refused as usize);
     let end = labelled(text, at, b" at ", place);

@@ -1,28 +1,27 @@
 // The lines of the report, and the whole text.
-use crate::seen::Seen;
-use crate::seen::detect;
-use crate::text::copy;
-use crate::text::field;
-use crate::text::labelled;
-use crate::text::letter;
-use crate::text::number;
-use crate::text::put;
-use needs::times;
+use detections::Seen;
+use detections::detect;
 use rules::Kind;
 use rules::Network;
-ghost use mathlib.Core.Path.{_≡_};
-ghost use Prim.Native.Nat.{_*_, _-_, _≤_, _<_};
+use text::copy;
+use text::field;
+use text::labelled;
+use text::letter;
+use text::number;
+use text::put;
+ghost use Prim.Native.Nat.{_≤_, _<_};
 ghost use Rattle.rules.specs.File.{setOf};
 ghost use Rattle.rules.specs.Report.{headerLine, detectionLines, reportText};
-ghost use Rattle.report.specs.Text.{Wrote};
-ghost use Rattle.report.specs.Lines.{Ready, Pair, headOf, changeOf, tailOf, lineOf, lineFor, nodeLines, lastOf};
+ghost use Rattle.text.specs.Text.{Wrote};
+ghost use Rattle.detections.specs.Detection.{Ready, Pair};
+ghost use Rattle.report.specs.Lines.{headOf, changeOf, tailOf, lineOf, lineFor, nodeLines, lastOf, headRoom, changeRoom, tailRoom, lineRoom, nodeRoom, linesRoom, headerRoom, lastRoom, textRoom};
 
 // ---- a line
 
 // The detecting node, its next hop, the destination.
 fn head(text: &mut [u8], at: usize, u: u8, via: u8, t: u8) -> usize
     requires { ⌜ at < 1048576 ⌝ }
-    ensures { λ r. ⌜ Wrote (now (text .entry)) at (headOf u via t) 63 r (now (text .exit)) ⌝ }
+    ensures { λ r. ⌜ Wrote (now (text .entry)) at (headOf u via t) headRoom r (now (text .exit)) ⌝ }
 {
     let second = field(text, at, u);
     let third = field(text, second, via);
@@ -32,7 +31,7 @@ fn head(text: &mut [u8], at: usize, u: u8, via: u8, t: u8) -> usize
 // The kind, the topology changed to, the neighbour taken.
 fn change(text: &mut [u8], at: usize, kind: Kind, topology: u8, next: u8) -> usize
     requires { ⌜ at < 2097152 ⌝ }
-    ensures { λ r. ⌜ Wrote (now (text .entry)) at (changeOf kind topology next) 44 r (now (text .exit)) ⌝ }
+    ensures { λ r. ⌜ Wrote (now (text .entry)) at (changeOf kind topology next) changeRoom r (now (text .exit)) ⌝ }
 {
     let space = put(text, at, letter(kind));
     let second = put(text, space, b' ');
@@ -43,7 +42,7 @@ fn change(text: &mut [u8], at: usize, kind: Kind, topology: u8, next: u8) -> usi
 // The hops, the extra hops, the line's end.
 fn tail(text: &mut [u8], at: usize, hops: u8, extra: u8) -> usize
     requires { ⌜ at < 2097152 ⌝ }
-    ensures { λ r. ⌜ Wrote (now (text .entry)) at (tailOf hops extra) 42 r (now (text .exit)) ⌝ }
+    ensures { λ r. ⌜ Wrote (now (text .entry)) at (tailOf hops extra) tailRoom r (now (text .exit)) ⌝ }
 {
     let second = field(text, at, hops);
     let end = number(text, second, extra as usize);
@@ -52,7 +51,7 @@ fn tail(text: &mut [u8], at: usize, hops: u8, extra: u8) -> usize
 
 fn line(text: &mut [u8], at: usize, u: u8, t: u8, seen: Seen) -> usize
     requires { ⌜ at < 1048576 ⌝ }
-    ensures { λ r. ⌜ Wrote (now (text .entry)) at (lineOf u t seen) 149 r (now (text .exit)) ⌝ }
+    ensures { λ r. ⌜ Wrote (now (text .entry)) at (lineOf u t seen) lineRoom r (now (text .exit)) ⌝ }
 {
     let second = head(text, at, u, seen.via, t);
     let kind = seen.kind;
@@ -75,7 +74,7 @@ fn line_for(
     requires { ⌜ Ready (now file) net (now tables) ⌝ }
     requires { ⌜ Pair net u t ⌝ }
     requires { ⌜ at < 1048576 ⌝ }
-    ensures { λ r. ⌜ Wrote (now (text .entry)) at (lineFor (setOf (now (file .entry))) u t) 149 r (now (text .exit)) ⌝ }
+    ensures { λ r. ⌜ Wrote (now (text .entry)) at (lineFor (setOf (now (file .entry))) u t) lineRoom r (now (text .exit)) ⌝ }
 {
     if u == t {
         return at;
@@ -95,7 +94,7 @@ fn node_lines(
 ) -> usize
     requires { ⌜ Ready (now file) net (now tables) ⌝ }
     requires { ⌜ (u < net .n) × (start < 524288) ⌝ }
-    ensures { λ r. ⌜ Wrote (now (text .entry)) start (nodeLines (setOf (now (file .entry))) u) 4768 r (now (text .exit)) ⌝ }
+    ensures { λ r. ⌜ Wrote (now (text .entry)) start (nodeLines (setOf (now (file .entry))) u) nodeRoom r (now (text .exit)) ⌝ }
 {
     let n = net.n;
     let mut at = start;
@@ -110,8 +109,8 @@ fn node_lines(
 // The lines of all nodes.
 fn all_lines(file: &[u8], net: Network, tables: &[u8], text: &mut [u8], start: usize) -> usize
     requires { ⌜ Ready (now file) net (now tables) ⌝ }
-    requires { ⌜ start ≤ 44 ⌝ }
-    ensures { λ r. ⌜ Wrote (now (text .entry)) start (detectionLines (setOf (now (file .entry)))) 152576 r (now (text .exit)) ⌝ }
+    requires { ⌜ start ≤ headerRoom ⌝ }
+    ensures { λ r. ⌜ Wrote (now (text .entry)) start (detectionLines (setOf (now (file .entry)))) linesRoom r (now (text .exit)) ⌝ }
 {
     let n = net.n;
     let mut at = start;
@@ -127,36 +126,27 @@ fn all_lines(file: &[u8], net: Network, tables: &[u8], text: &mut [u8], start: u
 
 // The header line never varies.
 fn header(text: &mut [u8]) -> usize
-    ensures { λ r. ⌜ Wrote (now (text .entry)) 0 headerLine 44 r (now (text .exit)) ⌝ }
+    ensures { λ r. ⌜ Wrote (now (text .entry)) 0 headerLine headerRoom r (now (text .exit)) ⌝ }
 {
     copy(text, 0, b"node via dest kind topology next hops extra\n")
 }
 
-// How many ordered pairs of different nodes there are.
-fn detections(n: u8) -> usize
-    requires { ⌜ (3 ≤ n) × (n ≤ 32) ⌝ }
-    ensures { λ r. ⌜ r ≡ n * (n - 1) ⌝ }
-{
-    let n = n as usize;
-    times(n, n - 1)
-}
-
 // The last line: how many detections there are.
-fn last_line(n: u8, text: &mut [u8], at: usize) -> usize
-    requires { ⌜ (3 ≤ n) × (n ≤ 32) ⌝ }
+fn last_line(net: Network, text: &mut [u8], at: usize) -> usize
+    requires { ⌜ (3 ≤ net .n) × (net .n ≤ 32) ⌝ }
     requires { ⌜ at < 1048576 ⌝ }
-    ensures { λ r. ⌜ Wrote (now (text .entry)) at (lastOf n) 37 r (now (text .exit)) ⌝ }
+    ensures { λ r. ⌜ Wrote (now (text .entry)) at (lastOf (net .n)) lastRoom r (now (text .exit)) ⌝ }
 {
-    let end = labelled(text, at, b"detections ", detections(n));
+    let end = labelled(text, at, b"detections ", net.detections());
     put(text, end, b'\n')
 }
 
 // The whole text of an accepted file's report; returns its length.
 pub fn write(file: &[u8], net: Network, tables: &[u8], text: &mut [u8]) -> usize
     requires { ⌜ Ready (now file) net (now tables) ⌝ }
-    ensures { λ r. ⌜ Wrote (now (text .entry)) 0 (reportText (setOf (now (file .entry)))) 152657 r (now (text .exit)) ⌝ }
+    ensures { λ r. ⌜ Wrote (now (text .entry)) 0 (reportText (setOf (now (file .entry)))) textRoom r (now (text .exit)) ⌝ }
 {
     let first = header(text);
     let last = all_lines(file, net, tables, text, first);
-    last_line(net.n, text, last)
+    last_line(net, text, last)
 }

@@ -3,14 +3,14 @@ use borrow.Author.Needs.{needs}
 use Rattle.burnishpeg.proofs.burnishpeg_report.Statement.{statement}
 use Rattle.burnishpeg.proofs.burnishpeg_report.Tie as tie
 
-text-room-requires : tie.Need-text-room-requires
-text-room-requires c κs = search needs
-
 report-requires : tie.Need-report-requires
 report-requires c κs = search needs
 
+report-requires-2 : tie.Need-report-requires-2
+report-requires-2 c κs = search needs
+
 lay-text-requires : tie.Need-lay-text-requires
-lay-text-requires c κs = search needs
+lay-text-requires c κs = search texts
 
 length-word-requires : tie.Need-length-word-requires
 length-word-requires c κs = search needs
@@ -25,8 +25,8 @@ pub burnishpeg-report-spec : {M : Type 1} → statement M
 burnishpeg-report-spec =
     tie.close
     (tie.spec
-    text-room-requires
     report-requires
+    report-requires-2
     lay-text-requires
     length-word-requires
     same-length

@@ -1,4 +1,4 @@
-use Rattle.burnishpeg.proofs.Laws.{entries}
+use Rattle.burnishpeg.proofs.Entries.{entries}
 use borrow.Author.Needs.{needs}
 use Rattle.burnishpeg.proofs.burnishpeg_write.Statement.{statement}
 use Rattle.burnishpeg.proofs.burnishpeg_write.Tie as tie

@@ -9,33 +9,18 @@ enum-told c = search needs
 enum-known-answer : tie.Need-enum-known-answer
 enum-known-answer c = search needs
 
+copied-requires : tie.Need-copied-requires
+copied-requires c κs = search texts
+
 returns : tie.Need-returns
 returns c = search texts
-
-returns-2 : tie.Need-returns-2
-returns-2 c = search texts
-
-copy-front-requires : tie.Need-copy-front-requires
-copy-front-requires c κs = search needs
-
-returns-3 : tie.Need-returns-3
-returns-3 c = search texts
 
 same-length : tie.Need-same-length
 same-length c = search needs
 
-returns-4 : tie.Need-returns-4
-returns-4 c = search texts
+returns-2 : tie.Need-returns-2
+returns-2 c = search texts
 
 pub lay-spec : {M : Type 1} → statement M
 lay-spec =
-    tie.close
-    (tie.spec
-    enum-told
-    enum-known-answer
-    returns
-    returns-2
-    copy-front-requires
-    returns-3
-    same-length
-    returns-4)
+    tie.close (tie.spec enum-told enum-known-answer copied-requires returns same-length returns-2)

@@ -1,21 +1,22 @@
 use borrow.Author.Needs.{needs}
+use Rattle.report.proofs.Answers.{answers}
 use Rattle.report.proofs.report.Statement.{statement}
 use Rattle.report.proofs.report.Tie as tie
 
-tables-room-requires : tie.Need-tables-room-requires
-tables-room-requires c κs = search needs
+tables-requires : tie.Need-tables-requires
+tables-requires c κs = search needs
 
 slice-aggregate-tables : tie.Need-slice-aggregate-tables
 slice-aggregate-tables c = search needs
 
-tables-requires : tie.Need-tables-requires
-tables-requires c κs = search needs
+tables-requires-2 : tie.Need-tables-requires-2
+tables-requires-2 c κs = search needs
 
 slice-aggregate-report-by : tie.Need-slice-aggregate-report-by
 slice-aggregate-report-by c = search needs
 
 report-by-requires : tie.Need-report-by-requires
-report-by-requires c κs = search needs
+report-by-requires c κs = (search needs, search answers)
 
 returns : tie.Need-returns
 returns c = search needs
@@ -24,9 +25,9 @@ pub report-spec : {M : Type 1} → statement M
 report-spec =
     tie.close
     (tie.spec
-    tables-room-requires
-    slice-aggregate-tables
     tables-requires
+    slice-aggregate-tables
+    tables-requires-2
     slice-aggregate-report-by
     report-by-requires
     returns)

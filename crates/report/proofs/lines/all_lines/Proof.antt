@@ -1,6 +1,6 @@
 use Prim.Native.Nat.{_*_, _-_, _≤_}
-use Rattle.report.specs.Lines.{nodeLines}
-use Rattle.report.specs.Text.{Wrote}
+use Rattle.report.specs.Lines.{nodeLines, nodeRoom}
+use Rattle.text.specs.Text.{Wrote}
 use Rattle.rules.specs.Basics.{flat}
 use Rattle.rules.specs.File.{setOf}
 use borrow.Author.Needs.{needs}
@@ -9,7 +9,7 @@ use Rattle.report.proofs.lines.all_lines.Statement.{statement}
 use Rattle.report.proofs.lines.all_lines.Tie as tie
 
 abbrev Inv-loop : tie.InvT-loop
-Inv-loop file net tables text₀ start n at₀ u₀ text at u = (u ≤ net .n) × Wrote text₀ start (flat (nodeLines (setOf file)) u) (4768 * u) at text
+Inv-loop file net tables text₀ start n at₀ u₀ text at u = (u ≤ net .n) × Wrote text₀ start (flat (nodeLines (setOf file)) u) (nodeRoom * u) at text
 
 abbrev μ-loop : tie.MeasureT-loop
 μ-loop file net tables text₀ start n at₀ u₀ text at u = net .n - u

@@ -1,5 +1,5 @@
-use borrow.Author.Needs.{needs}
 use Rattle.report.proofs.Wholes.{wholes}
+use borrow.Author.Needs.{needs}
 use Rattle.report.proofs.lines.last_line.Statement.{statement}
 use Rattle.report.proofs.lines.last_line.Tie as tie
 

@@ -1,6 +1,6 @@
 use Prim.Native.Nat.{_*_, _-_, _≤_}
-use Rattle.report.specs.Lines.{lineFor}
-use Rattle.report.specs.Text.{Wrote}
+use Rattle.report.specs.Lines.{lineFor, lineRoom}
+use Rattle.text.specs.Text.{Wrote}
 use Rattle.rules.specs.Basics.{flat}
 use Rattle.rules.specs.File.{setOf}
 use borrow.Author.Needs.{needs}
@@ -9,7 +9,7 @@ use Rattle.report.proofs.lines.node_lines.Statement.{statement}
 use Rattle.report.proofs.lines.node_lines.Tie as tie
 
 abbrev Inv-loop : tie.InvT-loop
-Inv-loop file net tables u text₀ start n at₀ t₀ text at t = (t ≤ net .n) × Wrote text₀ start (flat (lineFor (setOf file) u) t) (149 * t) at text
+Inv-loop file net tables u text₀ start n at₀ t₀ text at t = (t ≤ net .n) × Wrote text₀ start (flat (lineFor (setOf file) u) t) (lineRoom * t) at text
 
 abbrev μ-loop : tie.MeasureT-loop
 μ-loop file net tables u text₀ start n at₀ t₀ text at t = net .n - t

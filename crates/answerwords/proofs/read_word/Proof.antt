@@ -1,0 +1,33 @@
+use Rattle.answerwords.proofs.Laws.{words}
+use borrow.Author.Needs.{needs}
+use Rattle.answerwords.proofs.read_word.Statement.{statement}
+use Rattle.answerwords.proofs.read_word.Tie as tie
+
+enum-known-a : tie.Need-enum-known-a
+enum-known-a c = search needs
+
+header-word-requires : tie.Need-header-word-requires
+header-word-requires c κs = search needs
+
+enum-known-a-2 : tie.Need-enum-known-a-2
+enum-known-a-2 c = search needs
+
+refused-word-requires : tie.Need-refused-word-requires
+refused-word-requires c κs = search needs
+
+returns : tie.Need-returns
+returns c = search words
+
+returns-2 : tie.Need-returns-2
+returns-2 c = search words
+
+pub read-word-spec : {M : Type 1} → statement M
+read-word-spec =
+    tie.close
+    (tie.spec
+    enum-known-a
+    header-word-requires
+    enum-known-a-2
+    refused-word-requires
+    returns
+    returns-2)

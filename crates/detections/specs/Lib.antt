@@ -1,0 +1,2 @@
+-- What a detecting node sees.
+pub mod Detection

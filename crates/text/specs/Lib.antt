@@ -1,0 +1,2 @@
+-- Bytes written into a text at a cursor.
+pub mod Text

@@ -1,0 +1,97 @@
+// Text at a cursor: bytes, numbers in decimal, labels and letters. Each function promises that its bytes stand from `at` on, as far
+// as the text reaches, and returns the place after them. A byte past the text's end is not stored, so no caller has to ask for room.
+use rules::Kind;
+use slices::byte;
+use slices::store;
+ghost use mathlib.Core.Path.{_≡_};
+ghost use mathlib.Core.List.{[], _∷_, _++_};
+ghost use Prim.Native.Nat.{_+_, _≤_, _<_};
+ghost use lib.ListN.{length};
+ghost use Rattle.rules.specs.Forwarding.{letter};
+ghost use Rattle.rules.specs.Report.{digits, decimal};
+ghost use Rattle.text.specs.Text.{Wrote, field, numberRoom, fieldRoom, labelRoom, labelledRoom};
+
+// One byte.
+pub fn put(text: &mut [u8], at: usize, x: u8) -> usize
+    requires { ⌜ at < 4294967296 ⌝ }
+    ensures { λ r. ⌜ Wrote (now (text .entry)) at (x ∷ []) 1 r (now (text .exit)) ⌝ }
+{
+    store::byte(text, at, x);
+    at + 1
+}
+
+// A byte string.
+pub fn copy(text: &mut [u8], start: usize, bytes: &[u8]) -> usize
+    requires { ⌜ (start < 16777216) × (length (now bytes) < 256) ⌝ }
+    ensures { λ r. ⌜ Wrote (now (text .entry)) start (now (bytes .entry)) (length (now (bytes .entry))) r (now (text .exit)) ⌝ }
+{
+    let long = bytes.len();
+    let mut at = start;
+    let mut i = 0;
+    while i < long {
+        at = put(text, at, byte(bytes, i));
+        i += 1;
+    }
+    at
+}
+
+// A digit.
+fn digit(x: usize) -> u8
+    requires { ⌜ x < 10 ⌝ }
+    ensures { λ r. ⌜ r ≡ 48 + x ⌝ }
+{
+    b'0' + (x as u8)
+}
+
+// The digits of x: the last `more` and one before them, at most.
+fn digits(text: &mut [u8], at: usize, x: usize, more: u8) -> usize
+    requires { ⌜ (at < 16777216) × (more < numberRoom) ⌝ }
+    ensures { λ r. ⌜ Wrote (now (text .entry)) at (digits more x) (more + 1) r (now (text .exit)) ⌝ }
+{
+    if more == 0 {
+        return put(text, at, digit(x % 10));
+    }
+    if x < 10 {
+        return put(text, at, digit(x));
+    }
+    let last = digits(text, at, x / 10, more - 1);
+    put(text, last, digit(x % 10))
+}
+
+// A number in decimal.
+pub fn number(text: &mut [u8], at: usize, x: usize) -> usize
+    requires { ⌜ at < 16777216 ⌝ }
+    ensures { λ r. ⌜ Wrote (now (text .entry)) at (decimal x) numberRoom r (now (text .exit)) ⌝ }
+{
+    digits(text, at, x, 19)
+}
+
+// A number after its label.
+pub fn labelled(text: &mut [u8], at: usize, label: &[u8], x: usize) -> usize
+    requires { ⌜ (at < 8388608) × (length (now label) ≤ labelRoom) ⌝ }
+    ensures { λ r. ⌜ Wrote (now (text .entry)) at (now (label .entry) ++ decimal x) labelledRoom r (now (text .exit)) ⌝ }
+{
+    let after = copy(text, at, label);
+    number(text, after, x)
+}
+
+// A number and the space after it.
+pub fn field(text: &mut [u8], at: usize, x: u8) -> usize
+    requires { ⌜ at < 8388608 ⌝ }
+    ensures { λ r. ⌜ Wrote (now (text .entry)) at (field x) fieldRoom r (now (text .exit)) ⌝ }
+{
+    let after = number(text, at, x as usize);
+    put(text, after, b' ')
+}
+
+// A kind of change by its letter.
+pub fn letter(kind: Kind) -> u8
+    ensures { λ r. ⌜ r ≡ letter kind ⌝ }
+{
+    match kind {
+        Kind::Unchanged => b'-',
+        Kind::T => b'T',
+        Kind::S => b'S',
+        Kind::D => b'D',
+    }
+}
