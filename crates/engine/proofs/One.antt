@@ -20,7 +20,7 @@ use Rattle.routes.specs.Lanes.{LowRows}
 use Rattle.routes.specs.Passes.{netOf, Wired, settled}
 use Rattle.routes.specs.Costs.{cost, rowOf, costAt, Links, Distances}
 use Rattle.routes.proofs.Exact.{costs-wired, settled-low, settled-distances}
-use Rattle.routes.proofs.Held.{held-links, held-costs}
+use Rattle.routes.proofs.ListedSets.{held-links, held-costs}
 use Rattle.hops.specs.Ties.{tieTable}
 use Rattle.hops.specs.Alternates.{Homed, RowsTo}
 use Rattle.hops.proofs.NextHops.{tie-table}

@@ -30,7 +30,7 @@ use Rattle.rules.proofs.File.Checked.{checked-set}
 use Rattle.rules.proofs.Isolation.HomesAndRows.{homes-all}
 use Rattle.rules.proofs.Forwarding.LentTables.{bytes-long}
 use Rattle.reader.specs.Reading.{rowOf, listsOf}
-use Rattle.tables.specs.Parts.{Exact, Wide, Held, tablesVerdict}
+use Rattle.tables.specs.Parts.{Exact, Wide, HoldSet, tablesVerdict}
 
 -- ---- lists of exactly the right lengths hold just the set's
 
@@ -70,13 +70,13 @@ room-of h d s n c x =
       rows = omega (arith, x .rows);
     }
 
-pub lists-held : (s : List ℕ) (h : Network) (d e : Lists) → h ≡ headerOf s → check s ≡ Accepted → Exact h d → e ≡ listsOf s h d → Held s h e
+pub lists-held : (s : List ℕ) (h : Network) (d e : Lists) → h ≡ headerOf s → check s ≡ Accepted → Exact h d → e ≡ listsOf s h d → HoldSet s h e
 lists-held s h d e n c x q = record { checked = c; set = held s h n c d e x q }
 
-pub accepted-lists : (s : List ℕ) (h : Network) (d : Lists) → Held s h d → AcceptedSet (setWith h d)
+pub accepted-lists : (s : List ℕ) (h : Network) (d : Lists) → HoldSet s h d → AcceptedSet (setWith h d)
 accepted-lists s h d H = subst (λ (S : Set). AcceptedSet S) (sym (H .set)) (checked-set s (H .checked))
 
-pub tables-held : (s : List ℕ) (h : Network) (d : Lists) (t : List ℕ) → Held s h d → t ≡ tableBytes (setWith h d) → t ≡ tableBytes (setOf s)
+pub tables-held : (s : List ℕ) (h : Network) (d : Lists) (t : List ℕ) → HoldSet s h d → t ≡ tableBytes (setWith h d) → t ≡ tableBytes (setOf s)
 tables-held s h d t H g = g ∙ ap tableBytes (H .set)
 
 -- ---- parts of longer lists

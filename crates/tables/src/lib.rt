@@ -20,7 +20,7 @@ ghost use Rattle.rules.specs.Judgement.{check};
 ghost use Rattle.rules.specs.Entries.Entry.{Promise};
 ghost use Rattle.rules.specs.Entries.Lists.{lists};
 ghost use Rattle.rules.specs.Entries.Tables.{tablesEntry};
-ghost use Rattle.tables.specs.Parts.{Exact, Wide, Held, tablesVerdict};
+ghost use Rattle.tables.specs.Parts.{Exact, Wide, HoldSet, tablesVerdict};
 
 // ---- from a file to its tables, by lists
 
@@ -35,7 +35,7 @@ fn by_lists<'a>(
     rows: &'a [u16],
     out: &mut [u8],
 )
-    requires { ⌜ Held (now file) net (lists (now a) (now b) (now weights) (now homes) (now rows)) ⌝ }
+    requires { ⌜ HoldSet (now file) net (lists (now a) (now b) (now weights) (now homes) (now rows)) ⌝ }
     requires { ⌜ length (now out) ≡ tablesLength net ⌝ }
     ensures { λ _. ⌜ now (out .exit) ≡ tableBytes (setOf (now (file .entry))) ⌝ }
 {
