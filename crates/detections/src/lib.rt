@@ -1,7 +1,7 @@
 // What a detecting node sees: its next hop in topology 0, what it does where the link to it is down, and the hops from there on.
 // `detect` promises all that the report's line on a node and a destination holds, of an accepted file by its own tables.
-use hop::link_between;
-use hop::take;
+use onehop::link_between;
+use onehop::take;
 use rules::Failure;
 use rules::Kind;
 use rules::Network;
@@ -17,7 +17,7 @@ ghost use Rattle.rules.specs.File.{setOf};
 ghost use Rattle.rules.specs.Forwarding.{faultOf, entryPlace, packet, hops, runUnder};
 ghost use Rattle.rules.specs.Report.{packetOf, kindOf};
 ghost use Rattle.rules.specs.declared.Failure.the-variants.{Nothing};
-ghost use Rattle.hop.specs.Hop.{stepAt};
+ghost use Rattle.onehop.specs.Hop.{stepAt};
 ghost use Rattle.detections.specs.Detection.{Ready, Pair, Counted, seenBy};
 
 // The fields of a line after its node and destination.

@@ -77,8 +77,8 @@ fn topology<'a>(
     ensures { λ _. ⌜ Added (listed net (now (a .entry)) (now (b .entry)) (now (weights .entry)) (now (homes .entry)) (now (rows .entry))) i (now (out .exit)) (now (alts .exit)) ⌝ }
 {
     measure(net, a, b, weights, homes, rows, i, c, d);
-    hops::hop_table(a, b, c, d, w, out);
-    hops::alternates::fill(a, b, homes, i, d, alts);
+    nexthops::hop_table(a, b, c, d, w, out);
+    nexthops::alternates::fill(a, b, homes, i, d, alts);
 }
 
 // The same into out at `at`.

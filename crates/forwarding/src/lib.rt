@@ -1,8 +1,8 @@
 // Forwarding by 01, section 'Forwarding': one hop of a packet (`hop`), by the tables that are lent, as they are; and the whole run
 // (`travel`) from a source to a destination under one failure, by the tables that it makes itself. The entries `step` and `run` take
 // every input; their promises fix the answer, every byte of the trail and every byte of the tables.
-use hop::lookup_number;
-use hop::take;
+use onehop::lookup_number;
+use onehop::take;
 use judgement::judge;
 use layout::header;
 use needs::need_packet;
@@ -24,7 +24,7 @@ ghost use Rattle.rules.specs.File.{headerOf};
 ghost use Rattle.rules.specs.Entries.Entry.{Promise};
 ghost use Rattle.rules.specs.Entries.Step.{stepEntry};
 ghost use Rattle.rules.specs.Entries.Run.{runEntry};
-ghost use Rattle.hop.specs.Hop.{Judged};
+ghost use Rattle.onehop.specs.Hop.{Judged};
 ghost use Rattle.forwarding.specs.Steps.{stepInput, stepRest, stepVerdict};
 ghost use Rattle.forwarding.specs.Runs.{runInput, runLent, runVerdict, Ready, Ran};
 
