@@ -122,6 +122,8 @@ fn over(x: u8, y: u8) -> u8
 }
 
 // What node u sees of a packet for t where the link to its next hop is down.
+// Rules out: the extra hops turned round: plain hops minus backup hops `extra_turned_round`; hops counted with nothing down
+// `hops_with_nothing_down`.
 pub fn detect(file: &[u8], net: Network, tables: &[u8], u: u8, t: u8) -> Seen
     requires { ⌜ Ready (now file) net (now tables) ⌝ }
     requires { ⌜ Pair net u t ⌝ }

@@ -254,6 +254,8 @@ fn in_room<'a>(
 }
 
 // The tables of an accepted set that is held as lists.
+// Rules out: a way over a link with both ends isolated `routes/isolated_link_usable`; v itself as the alternate for v
+// `nexthops/alternate_may_be_v`.
 pub fn fill_tables<'a>(
     net: Network,
     a: &[u8],

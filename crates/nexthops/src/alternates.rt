@@ -216,6 +216,8 @@ fn alternates_at(
 }
 
 // The alternates of the nodes whose home is i, by the distances d of topology i, into their rows.
+// Rules out: v itself as the alternate for v `alternate_may_be_v`; the least distance taken to another node than v
+// `alternate_by_the_first_link`.
 pub fn fill(
     a: &[u8],
     b: &[u8],

@@ -183,6 +183,8 @@ fn hop_rows(w: &[[u32; Network::LANES]], out: &mut [u8])
 }
 
 // The next hops of a topology whose links cost c, by its distances d. w is room to work in.
+// Rules out: a next hop that is not the lowest of the neighbours that tie `words/tie_by_leading_zeros`; another node than itself
+// in a node's entry for itself.
 pub fn hop_table(
     a: &[u8],
     b: &[u8],

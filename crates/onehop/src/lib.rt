@@ -48,6 +48,8 @@ fn joins(file: &[u8], l: usize, u: u8, w: u8) -> bool
 }
 
 // The number of the link between u and w, or m.
+// Rules out: m, no link, for one that is asked for from its end b `the_failed_link_crossed_from_its_other_end`; another link of
+// u.
 pub fn link_between(file: &[u8], net: Network, u: u8, w: u8) -> u16
     requires { ⌜ net ≡ headerOf (now file) ⌝ }
     ensures { λ r. ⌜ r ≡ linkBetween (setOf (now (file .entry))) u w ⌝ }
@@ -64,6 +66,7 @@ pub fn link_between(file: &[u8], net: Network, u: u8, w: u8) -> u16
     m
 }
 
+// Rules out: no, asked from a link's end b `the_failed_link_crossed_from_its_other_end`; yes for two nodes that no link joins.
 pub fn neighbours(file: &[u8], net: Network, u: u8, w: u8) -> bool
     requires { ⌜ net ≡ headerOf (now file) ⌝ }
     ensures { λ r. ⌜ r ≡ neighbours (setOf (now (file .entry))) u w ⌝ }
@@ -72,6 +75,7 @@ pub fn neighbours(file: &[u8], net: Network, u: u8, w: u8) -> bool
 }
 
 // Node v's home; 0 where it is no node, or the file is a graph alone.
+// Rules out: another node's home; anything but 0 for a number that is no node.
 pub fn home(file: &[u8], net: Network, v: u8) -> u8
     requires { ⌜ net ≡ headerOf (now file) ⌝ }
     ensures { λ r. ⌜ r ≡ home (setOf (now (file .entry))) v ⌝ }
@@ -100,6 +104,7 @@ fn link_up(file: &[u8], net: Network, l: u16, u: u8, w: u8) -> bool
 }
 
 // The hop from u to w is up.
+// Rules out: yes for the hop over the failed link `the_failed_link_up_at_its_ends`; yes for a hop to the failed node.
 pub fn is_up(file: &[u8], net: Network, failure: Failure, u: u8, w: u8) -> bool
     requires { ⌜ Judged (now file) net ⌝ }
     ensures { λ r. ⌜ r ≡ on (now (file .entry)) failure u w ⌝ }
@@ -222,6 +227,8 @@ fn toward(file: &[u8], net: Network, tables: &[u8], failure: Failure, p: Packet,
 }
 
 // One hop of the packet, by the tables as they are.
+// Rules out: in kind D, the failed neighbour's home topology `its_topology_for_every_last_hop`; in kind D, a hop to the failed
+// neighbour again `the_alternate_not_looked_up`.
 pub fn take(file: &[u8], net: Network, tables: &[u8], failure: Failure, p: Packet) -> Step
     requires { ⌜ Judged (now file) net ⌝ }
     ensures { λ r. ⌜ r ≡ stepAt (now (file .entry)) (now (tables .entry)) failure p ⌝ }
@@ -284,6 +291,8 @@ fn onward_number(file: &[u8], net: Network, tables: &[u8], failure: Failure, p: 
 }
 
 // 15 where an entry that the hop looks up is no neighbour, else 0.
+// Rules out: 15 for a neighbour, seen from the link's end b `the_failed_link_crossed_from_its_other_end`; 0 where an entry that
+// is looked up is no neighbour.
 pub fn lookup_number(file: &[u8], net: Network, tables: &[u8], failure: Failure, p: Packet) -> u8
     requires { ⌜ Judged (now file) net ⌝ }
     ensures { λ r. ⌜ r ≡ lookupAt (now (file .entry)) (now (tables .entry)) failure p ⌝ }

@@ -97,6 +97,8 @@ fn go_on(
 }
 
 // The run of a packet, of at most so many hops; each node visited is written into the trail.
+// Rules out: delivered, where the hops allowed ran out before `delivery_claimed_before_arrival`; delivered, where the packet was
+// dropped `delivery_claimed_for_a_drop`.
 pub fn travel(
     file: &[u8],
     net: Network,
