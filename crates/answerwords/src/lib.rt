@@ -31,6 +31,8 @@ fn refused_word(number: u8, place: usize) -> u64
     9223372036854775808 + (number as u64) * 4294967296 + low
 }
 
+// Rules out: a refusal with bit 63 clear `a_refusal_that_looks_accepted`; the number of a refusal among the bits of its place
+// `the_number_over_the_place`.
 pub fn verdict_word(v: Verdict) -> u64
     ensures { λ r. ⌜ r ≡ wordOf [] (verdictTells v) ⌝ }
 {
@@ -40,6 +42,7 @@ pub fn verdict_word(v: Verdict) -> u64
     }
 }
 
+// Rules out: a length with bit 63 set, which looks refused; a refusal with bit 63 clear `a_refusal_that_looks_accepted`.
 pub fn length_word(a: LengthAnswer) -> u64
     ensures { λ r. ⌜ r ≡ wordOf byLength (lengthTells a) ⌝ }
 {
@@ -55,6 +58,7 @@ fn header_word(h: Network) -> u64
     (h.n as u64) + 256 * ((h.m as u64) + 65536 * ((h.k as u64) + 256 * (h.wmax as u64)))
 }
 
+// Rules out: n and k exchanged; m cut to 8 bits.
 pub fn read_word(a: ReadAnswer) -> u64
     ensures { λ r. ⌜ r ≡ wordOf byRead (readTells a) ⌝ }
 {
@@ -104,6 +108,7 @@ fn taken_word(s: Step) -> u64
     }
 }
 
+// Rules out: place and destination exchanged; a kind by its number, which is a letter.
 pub fn step_word(a: StepAnswer) -> u64
     ensures { λ r. ⌜ r ≡ wordOf byStep (stepTells a) ⌝ }
 {
@@ -121,6 +126,7 @@ fn journey_word(j: Journey) -> u64
     outcome_of(o) + 256 * ((j.hops as u64) + 256 * ((j.topology as u64) + 256 * letter_of(k)))
 }
 
+// Rules out: hops and topology exchanged; dropped told as delivered.
 pub fn run_word(a: RunAnswer) -> u64
     ensures { λ r. ⌜ r ≡ wordOf byRun (runTells a) ⌝ }
 {
@@ -132,6 +138,7 @@ pub fn run_word(a: RunAnswer) -> u64
 
 // ---- what is down
 
+// Rules out: kind 3 taken for a link `a_link_by_another_kind`; node 256 taken for node 0 `a_node_by_its_low_byte`.
 pub fn failure_of(kind: u8, failed: u16) -> Failure
     ensures { λ r. ⌜ r ≡ failureOf kind failed ⌝ }
 {

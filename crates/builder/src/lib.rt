@@ -211,6 +211,9 @@ fn input_verdict(graph: &[u8], cap: u8) -> Verdict
 }
 
 // The entry: a set for a graph with at most so many topologies, into a lent file.
+// Rules out: a node put into the last topology, where an earlier one admits it `search_from_the_last_topology`; 10 where a node
+// other than the first holds the others together, which is 9 `only_the_first_node_removed`; also `one_topology_tried`,
+// `room_for_the_graph_alone`, `rules_for_the_new_node_only`.
 pub fn build(graph: &[u8], cap: u8, file: &mut [u8]) -> LengthAnswer
     ensures { λ r. ⌜ Promise buildEntry (record { file = now (graph .entry); cap = cap }) (now (file .entry)) r (now (file .exit)) ⌝ }
 {

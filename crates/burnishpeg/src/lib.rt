@@ -30,6 +30,8 @@ ghost use Rattle.burnishpeg.specs.Laying.{Inside, Copied, Laid};
 
 // ---- the entries
 
+// Rules out: a refusal with bit 63 clear, which looks accepted `answerwords/a_refusal_that_looks_accepted`; the number of a
+// refusal among the bits of its place `answerwords/the_number_over_the_place`.
 #[no_mangle]
 pub extern "C" fn burnishpeg_check(file: &[u8]) -> u64
     ensures { λ r. ⌜ Answers checkEntry [] (now (file .entry)) tt r tt ⌝ }
@@ -37,6 +39,8 @@ pub extern "C" fn burnishpeg_check(file: &[u8]) -> u64
     verdict_word(checker::check(file))
 }
 
+// Rules out: a length that is not that of the file in `out`; a refusal with bit 63 clear
+// `answerwords/a_refusal_that_looks_accepted`; also `answerwords/the_number_over_the_place`.
 #[no_mangle]
 pub extern "C" fn burnishpeg_build(graph: &[u8], cap: u8, out: &mut [u8]) -> u64
     ensures { λ r. ⌜ Answers buildEntry byLength (record { file = now (graph .entry); cap = cap }) (now (out .entry)) r (now (out .exit)) ⌝ }
@@ -44,6 +48,8 @@ pub extern "C" fn burnishpeg_build(graph: &[u8], cap: u8, out: &mut [u8]) -> u64
     length_word(builder::build(graph, cap, out))
 }
 
+// Rules out: `tables` altered by a refused call; a refusal with bit 63 clear `answerwords/a_refusal_that_looks_accepted`; also
+// `answerwords/the_number_over_the_place`.
 #[no_mangle]
 pub extern "C" fn burnishpeg_tables(file: &[u8], tables: &mut [u8]) -> u64
     ensures { λ r. ⌜ Answers tablesEntry byLength (now (file .entry)) (now (tables .entry)) r (now (tables .exit)) ⌝ }
@@ -51,6 +57,9 @@ pub extern "C" fn burnishpeg_tables(file: &[u8], tables: &mut [u8]) -> u64
     length_word(tables::tables(file, tables))
 }
 
+// Rules out: 11 for a failed link, and kind 3 taken for one `answerwords/a_link_by_another_kind`; a refusal with bit 63 clear
+// `answerwords/a_refusal_that_looks_accepted`; also `answerwords/the_number_over_the_place`,
+// `answerwords/a_node_by_its_low_byte`.
 #[no_mangle]
 pub extern "C" fn burnishpeg_step(
     file: &[u8],
@@ -72,6 +81,9 @@ pub extern "C" fn burnishpeg_step(
     step_word(forwarding::step(file, tables, p, down))
 }
 
+// Rules out: 11 for a failed link, and kind 3 taken for one `answerwords/a_link_by_another_kind`; a refusal with bit 63 clear
+// `answerwords/a_refusal_that_looks_accepted`; also `answerwords/the_number_over_the_place`,
+// `answerwords/a_node_by_its_low_byte`.
 #[no_mangle]
 pub extern "C" fn burnishpeg_run(
     file: &[u8],
@@ -88,6 +100,8 @@ pub extern "C" fn burnishpeg_run(
     run_word(forwarding::run(file, source, destination, down, tables, trail))
 }
 
+// Rules out: n and k exchanged in the answer; a refusal with bit 63 clear `answerwords/a_refusal_that_looks_accepted`; also
+// `answerwords/the_number_over_the_place`.
 #[no_mangle]
 pub extern "C" fn burnishpeg_read(
     file: &[u8],
@@ -102,6 +116,8 @@ pub extern "C" fn burnishpeg_read(
     read_word(reader::read(file, a, b, weights, homes, rows))
 }
 
+// Rules out: `out` altered by a refused call; a refusal with bit 63 clear `answerwords/a_refusal_that_looks_accepted`; also
+// `answerwords/the_number_over_the_place`.
 #[no_mangle]
 pub extern "C" fn burnishpeg_write(
     n: u8,
@@ -161,6 +177,9 @@ fn lay_text(
     lay(answer, made, text)
 }
 
+// Rules out: 14 where `text` is exactly as long as the report `needs/just_enough_room_refused`; a refusal with bit 63 clear
+// `answerwords/a_refusal_that_looks_accepted`; also `answerwords/the_number_over_the_place`, `another_room_measured`,
+// `more_room_than_the_text_refused`.
 #[no_mangle]
 pub extern "C" fn burnishpeg_report(file: &[u8], text: &mut [u8]) -> u64
     ensures { λ r. ⌜ Answers reportEntry byLength (now (file .entry)) (now (text .entry)) r (now (text .exit)) ⌝ }

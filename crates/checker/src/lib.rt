@@ -38,6 +38,7 @@ ghost use Rattle.checker.specs.Topology.{backboneWord, reachedWord, conn
 // ---- a topology, by words
 
 // The backbone of a topology with these isolated nodes.
+// Rules out: an isolated node in it; node n in it.
 pub fn backbone(n: u8, iso: u32) -> u32
     requires { ⌜ (1 ≤ n) × (n ≤ 32) ⌝ }
     ensures { λ r. ⌜ r ≡ backboneWord n iso ⌝ }
@@ -65,6 +66,8 @@ fn reach(nb: &[u32], bb: u32, root: u8) -> u32
 }
 
 // The backbone is non-empty and connected by normal links.
+// Rules out: isolated nodes taken for reached `path_through_an_isolated_node`; yes for an empty backbone (the test for it left
+// out: `backbone_allowed_empty`).
 pub fn connected(nb: &[u32], bb: u32) -> bool
     ensures { λ r. ⌜ r ≡ connectedBy (now (nb .entry)) bb ⌝ }
 {
@@ -102,6 +105,8 @@ fn all_served(nb: &[u32], iso: u32, bb: u32, n: u8) -> bool
 }
 
 // 0, or the number of the rule that a topology of n nodes with these isolated nodes breaks: 7 before 8.
+// Rules out: 0 where an isolated node has only one restricted link `one_restricted_link_is_enough`; links between isolated nodes
+// counted as restricted `isolated_neighbours_counted`.
 pub fn topology_number(nb: &[u32], n: u8, iso: u32) -> u8
     requires { ⌜ (1 ≤ n) × (n ≤ 32) ⌝ }
     ensures { λ r. ⌜ r ≡ numberBy (now (nb .entry)) n iso ⌝ }
@@ -121,6 +126,7 @@ pub fn topology_number(nb: &[u32], n: u8, iso: u32) -> u8
 // ---- words from a file's bytes
 
 // y comes into x's word.
+// Rules out: x in y's word in place of y in x's; y alone in x's word, the others lost.
 pub fn enter(nb: &mut [u32; Network::MOST_NODES], x: u8, y: u8)
     requires { ⌜ x < 32 ⌝ }
     requires { ⌜ y < 32 ⌝ }
@@ -132,6 +138,7 @@ pub fn enter(nb: &mut [u32; Network::MOST_NODES], x: u8, y: u8)
 }
 
 // Every node's neighbour word: each link is entered at both its ends.
+// Rules out: a link under one end only `link_under_one_end`; a link past the first m counted.
 pub fn neighbour_words(file: &[u8], m: u16) -> [u32; Network::MOST_NODES]
     requires { ⌜ Ends (now file) m ⌝ }
     ensures { λ r. ⌜ r ≡ neighbourWords (now (file .entry)) m ⌝ }
@@ -149,6 +156,7 @@ pub fn neighbour_words(file: &[u8], m: u16) -> [u32; Network::MOST_NODES]
 }
 
 // The nodes whose home is topology i.
+// Rules out: the nodes of another topology; the backbone, its opposite.
 pub fn isolated_word(file: &[u8], net: Network, i: u8) -> u32
     requires { ⌜ net .n ≤ 32 ⌝ }
     ensures { λ r. ⌜ r ≡ word (homeIs (now (file .entry)) net i) (net .n) ⌝ }
@@ -216,6 +224,7 @@ fn set_verdict(file: &[u8]) -> Verdict
 }
 
 // 01's verdict on a set's bytes.
+// Rules out: a refusal's place one topology early `place_one_early`; a graph alone accepted, which is 13.
 pub fn verdict(file: &[u8]) -> Verdict
     ensures { λ r. ⌜ r ≡ check (now (file .entry)) ⌝ }
 {
@@ -230,6 +239,8 @@ pub fn verdict(file: &[u8]) -> Verdict
 }
 
 // The entry.
+// Rules out: accepted, although an isolated node has only one restricted link `one_restricted_link_is_enough`; a refusal's place
+// one topology early `place_one_early`.
 pub fn check(file: &[u8]) -> Verdict
     ensures { λ r. ⌜ Promise checkEntry (now (file .entry)) tt r tt ⌝ }
 {

@@ -1,7 +1,7 @@
 // What a detecting node sees: its next hop in topology 0, what it does where the link to it is down, and the hops from there on.
 // `detect` promises all that the report's line on a node and a destination holds, of an accepted file by its own tables.
-use hop::link_between;
-use hop::take;
+use onehop::link_between;
+use onehop::take;
 use rules::Failure;
 use rules::Kind;
 use rules::Network;
@@ -17,7 +17,7 @@ ghost use Rattle.rules.specs.File.{setOf};
 ghost use Rattle.rules.specs.Forwarding.{faultOf, entryPlace, packet, hops, runUnder};
 ghost use Rattle.rules.specs.Report.{packetOf, kindOf};
 ghost use Rattle.rules.specs.declared.Failure.the-variants.{Nothing};
-ghost use Rattle.hop.specs.Hop.{stepAt};
+ghost use Rattle.onehop.specs.Hop.{stepAt};
 ghost use Rattle.detections.specs.Detection.{Ready, Pair, Counted, seenBy};
 
 // The fields of a line after its node and destination.
@@ -122,6 +122,8 @@ fn over(x: u8, y: u8) -> u8
 }
 
 // What node u sees of a packet for t where the link to its next hop is down.
+// Rules out: the extra hops turned round: plain hops minus backup hops `extra_turned_round`; hops counted with nothing down
+// `hops_with_nothing_down`.
 pub fn detect(file: &[u8], net: Network, tables: &[u8], u: u8, t: u8) -> Seen
     requires { ⌜ Ready (now file) net (now tables) ⌝ }
     requires { ⌜ Pair net u t ⌝ }

@@ -77,8 +77,8 @@ fn topology<'a>(
     ensures { λ _. ⌜ Added (listed net (now (a .entry)) (now (b .entry)) (now (weights .entry)) (now (homes .entry)) (now (rows .entry))) i (now (out .exit)) (now (alts .exit)) ⌝ }
 {
     measure(net, a, b, weights, homes, rows, i, c, d);
-    hops::hop_table(a, b, c, d, w, out);
-    hops::alternates::fill(a, b, homes, i, d, alts);
+    nexthops::hop_table(a, b, c, d, w, out);
+    nexthops::alternates::fill(a, b, homes, i, d, alts);
 }
 
 // The same into out at `at`.
@@ -254,6 +254,8 @@ fn in_room<'a>(
 }
 
 // The tables of an accepted set that is held as lists.
+// Rules out: a way over a link with both ends isolated `routes/isolated_link_usable`; v itself as the alternate for v
+// `nexthops/alternate_may_be_v`.
 pub fn fill_tables<'a>(
     net: Network,
     a: &[u8],

@@ -82,6 +82,8 @@ fn put_rows(graph: &[u8], homes: &[u8], file: &mut [u8], net: Network, k: u8)
 }
 
 // The whole file of the set with these counts and homes.
+// Rules out: a weight in a row for a link with an isolated end `weight_on_a_restricted_link`; the graph's own header, with k =
+// 0.
 pub fn put_set(graph: &[u8], homes: &[u8], file: &mut [u8], net: Network)
     ensures { λ _. ⌜ now (file .exit) ≡ put (now (file .entry)) 0 (filledFile (now (graph .entry)) (now (homes .entry)) net) ⌝ }
 {

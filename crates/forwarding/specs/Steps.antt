@@ -8,7 +8,7 @@ use Rattle.rules.specs.Limits.{tablesLength}
 use Rattle.rules.specs.File.{headerOf}
 use Rattle.rules.specs.Judgement.{refuse, andThen, judge, needSet, needPacket, needSource, needRoom}
 use Rattle.rules.specs.Entries.Step.{StepInput}
-use Rattle.hop.specs.Hop.{lookupAt}
+use Rattle.onehop.specs.Hop.{lookupAt}
 
 abbrev pub stepInput : List ℕ → List ℕ → Packet → Failure → StepInput
 stepInput s tables p f = record { file = s; tables = tables; packet = p; failure = f }

@@ -1,8 +1,6 @@
 // Forwarding by 01, section 'Forwarding': one hop of a packet (`hop`), by the tables that are lent, as they are; and the whole run
 // (`travel`) from a source to a destination under one failure, by the tables that it makes itself. The entries `step` and `run` take
 // every input; their promises fix the answer, every byte of the trail and every byte of the tables.
-use hop::lookup_number;
-use hop::take;
 use judgement::judge;
 use layout::header;
 use needs::need_packet;
@@ -11,6 +9,8 @@ use needs::need_set;
 use needs::need_source;
 use needs::refuse;
 use needs::then;
+use onehop::lookup_number;
+use onehop::take;
 use rules::Failure;
 use rules::Journey;
 use rules::Network;
@@ -24,7 +24,7 @@ ghost use Rattle.rules.specs.File.{headerOf};
 ghost use Rattle.rules.specs.Entries.Entry.{Promise};
 ghost use Rattle.rules.specs.Entries.Step.{stepEntry};
 ghost use Rattle.rules.specs.Entries.Run.{runEntry};
-ghost use Rattle.hop.specs.Hop.{Judged};
+ghost use Rattle.onehop.specs.Hop.{Judged};
 ghost use Rattle.forwarding.specs.Steps.{stepInput, stepRest, stepVerdict};
 ghost use Rattle.forwarding.specs.Runs.{runInput, runLent, runVerdict, Ready, Ran};
 
@@ -58,6 +58,8 @@ fn step_verdict(file: &[u8], tables: &[u8], packet: Packet, failure: Failure) ->
 }
 
 // One step of a packet by the tables that are lent, as they are.
+// Rules out: a packet in a backup topology sent on when its hop is down, not dropped `onehop/a_second_change_allowed`; 14 for
+// short tables where the packet stands at the failed node too, which is 12 `twelve_after_fourteen`.
 pub fn step(file: &[u8], tables: &[u8], packet: Packet, failure: Failure) -> StepAnswer
     ensures { λ r. ⌜ Promise stepEntry (stepInput (now (file .entry)) (now (tables .entry)) packet failure) tt r tt ⌝ }
 {
@@ -113,6 +115,8 @@ fn run_in(
 }
 
 // A packet's run from a source to its destination, with something down or nothing.
+// Rules out: delivered, where the packet was dropped `travel/delivery_claimed_for_a_drop`; a trail that does not begin with the
+// source `travel/the_trail_without_its_source`.
 pub fn run(
     file: &[u8],
     source: u8,

@@ -182,6 +182,8 @@ fn records(file: &[u8], net: Network) -> Verdict
 }
 
 // Whether these bytes keep the rules of a file, and if not, the first rule of 01's order that they break and where.
+// Rules out: the place of the first home for a fault in a later one `place_of_first`; 5 for a row whose topology is wrong too,
+// which is 6 `weight_before_topology`; also `every_home_judged_by_the_first`, `place_of_an_earlier_record`.
 pub fn judge(file: &[u8]) -> Verdict
     ensures { λ r. ⌜ r ≡ judge (now (file .entry)) ⌝ }
 {

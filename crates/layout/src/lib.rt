@@ -14,6 +14,7 @@ ghost use Rattle.rules.specs.File.{headerOf, endA, endB, linkWeight, homeTopolo
 // ---- places
 
 // Where link l's record starts.
+// Rules out: 6 × l, without the header; the place of the link after.
 pub fn link_place(l: usize) -> usize
     requires { ⌜ l < 16777216 ⌝ }
     ensures { λ r. ⌜ (r ≡ linkPlace l) × (r < 134217728) ⌝ }
@@ -22,6 +23,7 @@ pub fn link_place(l: usize) -> usize
 }
 
 // Where node v's home record starts.
+// Rules out: a place among the links; the place of the next node's home.
 pub fn home_place(net: Network, v: usize) -> usize
     requires { ⌜ v < 16777216 ⌝ }
     ensures { λ r. ⌜ (r ≡ homePlace net v) × (r < 268435456) ⌝ }
@@ -30,6 +32,7 @@ pub fn home_place(net: Network, v: usize) -> usize
 }
 
 // Where the row of topology j + 1 starts.
+// Rules out: the place of the row after; room for homes counted in a graph alone.
 pub fn row_place(net: Network, j: usize) -> usize
     requires { ⌜ j < 256 ⌝ }
     ensures { λ r. ⌜ (r ≡ rowPlace net j) × (r < 536870912) ⌝ }
@@ -38,6 +41,7 @@ pub fn row_place(net: Network, j: usize) -> usize
 }
 
 // The counts that stand in the header.
+// Rules out: m with its bytes exchanged; k in the place of n.
 pub fn header(file: &[u8]) -> Network
     ensures { λ r. ⌜ r ≡ headerOf (now (file .entry)) ⌝ }
 {
@@ -47,6 +51,7 @@ pub fn header(file: &[u8]) -> Network
 // ---- fields: after its mark's two bytes a link has a, b and a weight of two bytes, a home its node and topology
 
 // One end of link l, and the other.
+// Rules out: the other end; the second byte of the mark.
 pub fn end_a(file: &[u8], l: usize) -> u8
     requires { ⌜ l < 16777216 ⌝ }
     ensures { λ r. ⌜ r ≡ endA (now (file .entry)) l ⌝ }
@@ -54,6 +59,7 @@ pub fn end_a(file: &[u8], l: usize) -> u8
     byte(file, link_place(l) + 2)
 }
 
+// Rules out: the other end; the first byte of the weight.
 pub fn end_b(file: &[u8], l: usize) -> u8
     requires { ⌜ l < 16777216 ⌝ }
     ensures { λ r. ⌜ r ≡ endB (now (file .entry)) l ⌝ }
@@ -62,6 +68,7 @@ pub fn end_b(file: &[u8], l: usize) -> u8
 }
 
 // Link l's weight in topology 0.
+// Rules out: the weight with its bytes exchanged; the weight of the link after.
 pub fn link_weight(file: &[u8], l: usize) -> u16
     requires { ⌜ l < 16777216 ⌝ }
     ensures { λ r. ⌜ r ≡ linkWeight (now (file .entry)) l ⌝ }
@@ -70,6 +77,7 @@ pub fn link_weight(file: &[u8], l: usize) -> u16
 }
 
 // Node v's home.
+// Rules out: the node's number, which stands before it; another node's home.
 pub fn home_topology(file: &[u8], net: Network, v: usize) -> u8
     requires { ⌜ v < 16777216 ⌝ }
     ensures { λ r. ⌜ r ≡ homeTopology (now (file .entry)) net v ⌝ }
@@ -78,6 +86,7 @@ pub fn home_topology(file: &[u8], net: Network, v: usize) -> u8
 }
 
 // Weight x of the row of topology j + 1.
+// Rules out: the same link's weight in another row; another link's weight in the same row.
 pub fn row_weight(file: &[u8], net: Network, j: usize, x: usize) -> u16
     requires { ⌜ (j < 256) × (x < 16777216) ⌝ }
     ensures { λ r. ⌜ r ≡ rowWeight (now (file .entry)) net j x ⌝ }

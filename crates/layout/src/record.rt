@@ -24,6 +24,7 @@ fn marked(file: &mut [u8], at: usize, x: u8, y: u8, z: u8)
 }
 
 // The network record, at the file's front.
+// Rules out: wmax with its lower byte first `slices/weight_bytes_swapped`; k before m.
 pub fn header(file: &mut [u8], net: Network)
     ensures { λ _. ⌜ now (file .exit) ≡ put (now (file .entry)) 0 (headerBytes net) ⌝ }
 {
@@ -34,6 +35,7 @@ pub fn header(file: &mut [u8], net: Network)
 }
 
 // A link record.
+// Rules out: the weight with its lower byte first `slices/weight_bytes_swapped`; end b before end a.
 pub fn link(file: &mut [u8], at: usize, a: u8, b: u8, w: u16)
     requires { ⌜ at < 134217728 ⌝ }
     ensures { λ _. ⌜ now (file .exit) ≡ put (now (file .entry)) at (linkRecord a b w) ⌝ }
@@ -44,6 +46,7 @@ pub fn link(file: &mut [u8], at: usize, a: u8, b: u8, w: u16)
 }
 
 // A home record.
+// Rules out: the node after its topology; the byte before the record altered.
 pub fn home(file: &mut [u8], at: usize, v: u8, topology: u8)
     requires { ⌜ at < 268435456 ⌝ }
     ensures { λ _. ⌜ now (file .exit) ≡ put (now (file .entry)) at (homeRecord v topology) ⌝ }
@@ -53,6 +56,7 @@ pub fn home(file: &mut [u8], at: usize, v: u8, topology: u8)
 }
 
 // The start of a row: its mark and its topology. Its weights follow, two bytes each.
+// Rules out: the topology before the mark; the row's first weight altered.
 pub fn row_head(file: &mut [u8], at: usize, topology: u8)
     requires { ⌜ at < 1073741824 ⌝ }
     ensures { λ _. ⌜ now (file .exit) ≡ put (now (file .entry)) at (rowHead topology) ⌝ }
@@ -61,6 +65,7 @@ pub fn row_head(file: &mut [u8], at: usize, topology: u8)
 }
 
 // The first home records, by a list of homes.
+// Rules out: the nodes numbered from 1; another node's home in a record.
 pub fn homes(file: &mut [u8], net: Network, homes: &[u8], count: usize)
     requires { ⌜ count < 256 ⌝ }
     ensures { λ _. ⌜ now (file .exit) ≡ put (now (file .entry)) (homePlace net 0) (flat (homeOf (now (homes .entry))) count) ⌝ }

@@ -143,6 +143,8 @@ fn last_line(net: Network, text: &mut [u8], at: usize) -> usize
 }
 
 // The whole text of an accepted file's report; returns its length.
+// Rules out: n × (n - 2) in the last line `rules/fewer_detections`; two words of the first line exchanged
+// `header_words_swapped`.
 pub fn write(file: &[u8], net: Network, tables: &[u8], text: &mut [u8]) -> usize
     requires { ⌜ Ready (now file) net (now tables) ⌝ }
     ensures { λ r. ⌜ Wrote (now (text .entry)) 0 (reportText (setOf (now (file .entry)))) textRoom r (now (text .exit)) ⌝ }

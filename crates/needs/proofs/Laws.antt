@@ -4,7 +4,7 @@ use mathlib.Core.Bool.{Bool, true, false}
 use Prim.Native.Nat.{ℕ, suc, _*_, _≤_, _<_}
 use native.Mathlib.Omega.{arith}
 use lib.Dec.{eqb, leb}
-use borrow.Author.Tests.{lt-leb, le-leb, leb-true, eq-eqb, ne-eqb}
+use borrow.Author.Tests.{lt-leb, le-leb, eq-eqb, ne-eqb}
 use Rattle.rules.specs.declared.Network.{Network}
 use Rattle.rules.specs.declared.Packet.{Packet}
 use Rattle.rules.specs.declared.Failure.{Failure}
@@ -14,7 +14,7 @@ use Rattle.rules.specs.declared.Verdict.the-variants.{Accepted, Refused}
 use Rattle.rules.specs.Basics.{if_then_else_, need}
 use Rattle.rules.specs.Limits.{homeRecords, rowWeights}
 use Rattle.rules.specs.Judgement.{refuse, andThen, needSet, needGraph, needFailure, needPacket, needCap, sourceNumber, needSource}
-use Rattle.rules.proofs.Ground.Choices.{need-lt, need-lt-no, need-le, need-le-no, need-ok, refuse-no, refuse-ok, refuse-zero, then-on, then-stop}
+use Rattle.rules.proofs.Ground.Choices.{need-lt, need-lt-no, need-le, need-le-no, refuse-no, refuse-ok, then-on, then-stop}
 use Rattle.needs.specs.Numbers.{packetNumber, listsRule, listsVerdict}
 
 -- ---- one refusal each
@@ -122,23 +122,5 @@ pub lists-are : (number : ℕ) (h : Network) (a b weights homes rows nodes entri
     → nodes ≡ homeRecords h → entries ≡ h .k * rowWeights h → v ≡ refuse short 0 → v ≡ listsVerdict number h a b weights homes rows
 unfolding listsVerdict
 lists-are number h a b weights homes rows nodes entries short v e n k d = d ∙ rw (e, n, k)
-
--- what an accepted need of lists says
-pub record ListsLong (h : Network) (a b weights homes rows : ℕ) : Type 0 where
-  pub a-long : h .m ≤ a
-  pub b-long : h .m ≤ b
-  pub weights-long : h .m ≤ weights
-  pub homes-long : homeRecords h ≤ homes
-  pub rows-long : h .k * rowWeights h ≤ rows
-
-pub lists-long : (number : ℕ) (h : Network) (a b weights homes rows : ℕ) → listsVerdict (suc number) h a b weights homes rows ≡ Accepted → ListsLong h a b weights homes rows
-unfolding listsVerdict listsRule
-lists-long number h a b weights homes rows e =
-    let p1 = need-ok _ _ _ (refuse-zero _ _ e) in
-    let p2 = need-ok _ _ _ (p1 .1) in
-    let p3 = need-ok _ _ _ (p2 .1) in
-    let p4 = need-ok _ _ _ (p3 .1) in
-    let p5 = need-ok _ _ _ (p4 .1) in
-    record { a-long = leb-true _ _ (p1 .0); b-long = leb-true _ _ (p2 .0); weights-long = leb-true _ _ (p3 .0); homes-long = leb-true _ _ (p4 .0); rows-long = leb-true _ _ (p5 .0) }
 
 pub ruleset orders = (refuse-ok, refuse-no, then-accepted, then-refused, set-none, set-some, room-short, room-enough, down-nothing, down-link, down-no-link, down-node, down-no-node, packet-is, source-nothing, source-link, source-failed, source-up, graph-some, graph-only, cap-low, cap-high, cap-given, need-lt, need-lt-no, need-le, need-le-no)

@@ -12,6 +12,7 @@ ghost use Rattle.rules.specs.Judgement.{refuse, andThen, needSet, needGraph, ne
 ghost use Rattle.needs.specs.Numbers.{packetNumber, listsRule, listsVerdict};
 
 // A refusal with this number and place, or acceptance where the number is 0.
+// Rules out: a refusal with the number 0; number and place exchanged.
 pub fn refuse(number: u8, place: usize) -> Verdict
     ensures { λ r. ⌜ r ≡ refuse number place ⌝ }
 {
@@ -22,6 +23,7 @@ pub fn refuse(number: u8, place: usize) -> Verdict
 }
 
 // The first of two that refuses.
+// Rules out: the second refusal where both refuse; accepted where only the second refuses.
 pub fn then(v: Verdict, w: Verdict) -> Verdict
     ensures { λ r. ⌜ r ≡ andThen v w ⌝ }
 {
@@ -35,6 +37,7 @@ pub fn then(v: Verdict, w: Verdict) -> Verdict
 }
 
 // 13: a set is needed.
+// Rules out: a graph alone accepted; 13 for a set with k = 1.
 pub fn need_set(net: Network) -> Verdict
     ensures { λ r. ⌜ r ≡ needSet net ⌝ }
 {
@@ -48,6 +51,7 @@ pub fn need_set(net: Network) -> Verdict
 }
 
 // 13: a graph alone is needed.
+// Rules out: a set accepted; 13 for a graph alone.
 pub fn need_graph(net: Network) -> Verdict
     ensures { λ r. ⌜ r ≡ needGraph net ⌝ }
 {
@@ -61,6 +65,7 @@ pub fn need_graph(net: Network) -> Verdict
 }
 
 // 11: a cap of 1 to 32 is needed.
+// Rules out: a cap of 0 accepted `a_cap_of_0_allowed`; 11 for a cap of 32.
 pub fn need_cap(cap: u8) -> Verdict
     ensures { λ r. ⌜ r ≡ needCap cap ⌝ }
 {
@@ -106,6 +111,7 @@ fn packet_number(net: Network, p: Packet, failure: Failure) -> u8
     failure_number(net, failure)
 }
 
+// Rules out: 11 for topology k, which there is; link m accepted as what is down, which there is not.
 pub fn need_packet(net: Network, p: Packet, failure: Failure) -> Verdict
     ensures { λ r. ⌜ r ≡ needPacket net p failure ⌝ }
 {
@@ -113,6 +119,7 @@ pub fn need_packet(net: Network, p: Packet, failure: Failure) -> Verdict
 }
 
 // 12: the packet's node is the failed one.
+// Rules out: 12 for a failed link at the node; accepted where the node itself is down.
 pub fn need_source(u: u8, failure: Failure) -> Verdict
     ensures { λ r. ⌜ r ≡ needSource u failure ⌝ }
 {
@@ -133,6 +140,7 @@ pub fn need_source(u: u8, failure: Failure) -> Verdict
 }
 
 // 14: room that is under what it is to hold.
+// Rules out: 14 where the room is exactly long enough `just_enough_room_refused`; accepted one byte short.
 pub fn need_room(long: usize, room: usize) -> Verdict
     ensures { λ r. ⌜ r ≡ refuse (need (leb long room) 14 0) 0 ⌝ }
 {
@@ -179,6 +187,7 @@ fn lists_number(
 }
 
 // Lists of these lengths hold what the counts need, else this number: 14 where they are lent, 1 where they are given.
+// Rules out: accepted where one list is an entry short; the number, where every list is exactly long enough.
 pub fn need_lists(
     number: u8,
     net: Network,

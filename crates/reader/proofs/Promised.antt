@@ -13,12 +13,12 @@ use Rattle.rules.specs.File.{headerOf, endA, endB, linkWeight, homeTopology, se
 use Rattle.rules.specs.Judgement.{andThen, judge}
 use Rattle.rules.specs.Answers.{tell, readTells}
 use Rattle.rules.specs.Entries.Entry.{onAccept, Promise}
-use Rattle.rules.specs.Entries.Lists.{Lists, lists, needLists}
+use Rattle.rules.specs.Entries.Lists.{Lists, lists, needLists, LongLists}
 use Rattle.rules.specs.Entries.Read.{listsWith, readEntry}
 use Rattle.rules.proofs.Ground.Choices.{then-second}
 use Rattle.needs.specs.Numbers.{listsRule, listsVerdict}
-use Rattle.needs.proofs.Laws.{lists-long}
-use Rattle.reader.specs.Reading.{rowOf, listsOf, Room, readVerdict}
+use Rattle.rules.proofs.Refusals.Needs.{lists-long}
+use Rattle.reader.specs.Reading.{rowOf, listsOf, readVerdict}
 
 pub verdict-on-is : (s : List ℕ) (h : Network) (a b weights homes rows : ℕ) (u w v : Verdict) → u ≡ judge s → w ≡ listsVerdict 14 h a b weights homes rows → v ≡ andThen u w
     → v ≡ readVerdict s h a b weights homes rows
@@ -44,11 +44,9 @@ module _ (s a b w hs rs : List ℕ) (h : Network) (v : Verdict)
   verdict-is = p ∙ rw q
 
   -- an accepted call has room
-  pub read-room : v ≡ Accepted → Room h (lists a b w hs rs)
-  unfolding readVerdict
-  read-room t =
-      let z = lists-long 13 h (length a) (length b) (length w) (length hs) (length rs) (then-second (judge s) _ (sym p ∙ t)) in
-      record { a = z .a-long; b = z .b-long; weights = z .weights-long; homes = z .homes-long; rows = z .rows-long }
+  pub read-room : v ≡ Accepted → LongLists h (lists a b w hs rs)
+  unfolding readVerdict listsVerdict listsRule needLists
+  read-room t = lists-long 13 h (lists a b w hs rs) (then-second (judge s) _ (sym p ∙ t))
 
   pub read-taken : (e : Lists) → v ≡ Accepted → e ≡ listsOf s h (lists a b w hs rs) → Promise readEntry s (lists a b w hs rs) (read.Read h) e
   unfolding readEntry readTells tell onAccept listsOf rowOf listsWith setOf

@@ -29,14 +29,6 @@ listsOf s h d =
     (laid (upTo (homeTopology s h) (homeRecords h)) (d .homes))
     (laid (flat (rowOf s h) (h .k)) (d .rows))
 
--- each list is long enough
-pub record Room (h : Network) (d : Lists) : Type 0 where
-  pub a : h .m ≤ length (d .a)
-  pub b : h .m ≤ length (d .b)
-  pub weights : h .m ≤ length (d .weights)
-  pub homes : homeRecords h ≤ length (d .homes)
-  pub rows : h .k * rowWeights h ≤ length (d .rows)
-
 -- 1 to 6, then 14
 unfoldable pub readVerdict : List ℕ → Network → ℕ → ℕ → ℕ → ℕ → ℕ → Verdict
 readVerdict s h a b weights homes rows = andThen (judge s) (listsVerdict 14 h a b weights homes rows)

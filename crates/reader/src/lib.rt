@@ -19,13 +19,14 @@ ghost use Rattle.rules.specs.Basics.{upTo, flat, laid};
 ghost use Rattle.rules.specs.Limits.{rowWeights};
 ghost use Rattle.rules.specs.File.{endA, endB, linkWeight, homeTopology, rowWeight};
 ghost use Rattle.rules.specs.Entries.Entry.{Promise};
-ghost use Rattle.rules.specs.Entries.Lists.{lists};
+ghost use Rattle.rules.specs.Entries.Lists.{lists, LongLists};
 ghost use Rattle.rules.specs.Entries.Read.{readEntry};
-ghost use Rattle.reader.specs.Reading.{byteAt, twoAt, rowOf, readVerdict, Room, listsOf};
+ghost use Rattle.reader.specs.Reading.{byteAt, twoAt, rowOf, readVerdict, listsOf};
 
 // ---- one list
 
 // The bytes at from, from + stride and so on, at the front of a list.
+// Rules out: bytes that stand side by side, where the stride is more than 1; an entry past the count altered.
 pub fn bytes_into(file: &[u8], from: usize, stride: usize, count: usize, out: &mut [u8])
     requires { ⌜ (count ≤ length (now out)) × ((count < 1048576) × ((stride < 256) × (from < 1073741824))) ⌝ }
     ensures { λ _. ⌜ now (out .exit) ≡ laid (upTo (byteAt (now (file .entry)) from stride) count) (now (out .entry)) ⌝ }
@@ -40,6 +41,7 @@ pub fn bytes_into(file: &[u8], from: usize, stride: usize, count: usize, out: &m
 }
 
 // The same of numbers of two bytes.
+// Rules out: the lower byte first; an entry past the count altered.
 pub fn twos_into(file: &[u8], from: usize, stride: usize, count: usize, out: &mut [u16])
     requires { ⌜ (count ≤ length (now out)) × ((count < 1048576) × ((stride < 256) × (from < 1073741824))) ⌝ }
     ensures { λ _. ⌜ now (out .exit) ≡ laid (upTo (twoAt (now (file .entry)) from stride) count) (now (out .entry)) ⌝ }
@@ -54,6 +56,7 @@ pub fn twos_into(file: &[u8], from: usize, stride: usize, count: usize, out: &mu
 }
 
 // The first m links' ends a.
+// Rules out: the ends b; an entry past the first m altered.
 pub fn ends_a_into(file: &[u8], m: usize, out: &mut [u8])
     requires { ⌜ (m ≤ length (now out)) × (m < 1048576) ⌝ }
     ensures { λ _. ⌜ now (out .exit) ≡ laid (upTo (endA (now (file .entry))) m) (now (out .entry)) ⌝ }
@@ -62,6 +65,7 @@ pub fn ends_a_into(file: &[u8], m: usize, out: &mut [u8])
 }
 
 // Their ends b.
+// Rules out: the ends a; the links from the second on.
 pub fn ends_b_into(file: &[u8], m: usize, out: &mut [u8])
     requires { ⌜ (m ≤ length (now out)) × (m < 1048576) ⌝ }
     ensures { λ _. ⌜ now (out .exit) ≡ laid (upTo (endB (now (file .entry))) m) (now (out .entry)) ⌝ }
@@ -70,6 +74,7 @@ pub fn ends_b_into(file: &[u8], m: usize, out: &mut [u8])
 }
 
 // Their weights in topology 0.
+// Rules out: a backup row's weights; a weight with its bytes exchanged.
 pub fn weights_into(file: &[u8], m: usize, out: &mut [u16])
     requires { ⌜ (m ≤ length (now out)) × (m < 1048576) ⌝ }
     ensures { λ _. ⌜ now (out .exit) ≡ laid (upTo (linkWeight (now (file .entry))) m) (now (out .entry)) ⌝ }
@@ -78,6 +83,7 @@ pub fn weights_into(file: &[u8], m: usize, out: &mut [u16])
 }
 
 // The first nodes' homes.
+// Rules out: the nodes' numbers; an entry past the count altered.
 pub fn homes_into(file: &[u8], net: Network, count: usize, out: &mut [u8])
     requires { ⌜ (count ≤ length (now out)) × (count < 1048576) ⌝ }
     ensures { λ _. ⌜ now (out .exit) ≡ laid (upTo (homeTopology (now (file .entry)) net) count) (now (out .entry)) ⌝ }
@@ -86,6 +92,7 @@ pub fn homes_into(file: &[u8], net: Network, count: usize, out: &mut [u8])
 }
 
 // The weights of the row of topology j + 1.
+// Rules out: the row of the topology after; the row's topology read as part of its first weight.
 pub fn row_into(file: &[u8], net: Network, j: usize, count: usize, out: &mut [u16])
     requires { ⌜ (j < 256) × ((count ≤ length (now out)) × (count < 1048576)) ⌝ }
     ensures { λ _. ⌜ now (out .exit) ≡ laid (upTo (rowWeight (now (file .entry)) net j) count) (now (out .entry)) ⌝ }
@@ -100,6 +107,7 @@ pub fn row_into(file: &[u8], net: Network, j: usize, count: usize, out: &mut [u1
 }
 
 // The rows one after the other.
+// Rules out: the last row first; a gap between two rows.
 pub fn rows_into(file: &[u8], net: Network, out: &mut [u16])
     requires { ⌜ net .k * rowWeights net ≤ length (now out) ⌝ }
     ensures { λ _. ⌜ now (out .exit) ≡ laid (flat (rowOf (now (file .entry)) net) (net .k)) (now (out .entry)) ⌝ }
@@ -118,6 +126,7 @@ pub fn rows_into(file: &[u8], net: Network, out: &mut [u16])
 // ---- all lists
 
 // Everything after the header.
+// Rules out: ends a in the list of ends b; an entry past the counts altered.
 pub fn lists_into(
     file: &[u8],
     net: Network,
@@ -127,7 +136,7 @@ pub fn lists_into(
     homes: &mut [u8],
     rows: &mut [u16],
 )
-    requires { ⌜ Room net (lists (now a) (now b) (now weights) (now homes) (now rows)) ⌝ }
+    requires { ⌜ LongLists net (lists (now a) (now b) (now weights) (now homes) (now rows)) ⌝ }
     ensures { λ _. ⌜ lists (now (a .exit)) (now (b .exit)) (now (weights .exit)) (now (homes .exit)) (now (rows .exit)) ≡ listsOf (now (file .entry)) net (lists (now (a .entry)) (now (b .entry)) (now (weights .entry)) (now (homes .entry)) (now (rows .entry))) ⌝ }
 {
     let m = net.m as usize;
@@ -155,6 +164,8 @@ fn verdict_on(
 }
 
 // Reads a file into the lent lists: link ends a and b, link weights, homes, backup weights row by row.
+// Rules out: the lists filled, and refusal 14 all the same `refused_after_writing`; 1 for a lent list that is too short, which
+// is 14 `short_list_is_one`; also `recordrules/end_n`.
 pub fn read(
     file: &[u8],
     a: &mut [u8],

@@ -30,6 +30,8 @@ fn report_by(made: LengthAnswer, file: &[u8], tables: &[u8], text: &mut [u8]) ->
 }
 
 // The report on a file's set, from its first byte on; or the refusal, and every byte of the text as it came.
+// Rules out: no lines for destinations below the node's own number `lines/lower_end_only`; hops counted with nothing down
+// `detections/hops_with_nothing_down`.
 pub fn report(file: &[u8], text: &mut [u8; Network::LONGEST_REPORT]) -> LengthAnswer
     ensures { λ r. ⌜ Promise reportEntry (now (file .entry)) (now (text .entry)) r (now (text .exit)) ⌝ }
 {
@@ -60,6 +62,7 @@ fn say(answer: LengthAnswer, text: &mut [u8]) -> usize
 }
 
 // The report, or the line of the refusal, from the text's first byte on; returns how many bytes it has.
+// Rules out: next hop and destination exchanged in a line `lines/columns_swapped`; no text for a refused file.
 pub fn print(file: &[u8], text: &mut [u8; Network::LONGEST_REPORT]) -> usize
     ensures { λ r. ⌜ Printed (now (file .entry)) (now (text .entry)) r (now (text .exit)) ⌝ }
 {

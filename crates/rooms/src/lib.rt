@@ -6,6 +6,7 @@ ghost use Rattle.rules.specs.Limits.{longest};
 ghost use Rattle.rooms.specs.Rooms.{Room};
 
 // Room for the longest file.
+// Rules out: one byte more; a byte other than 0.
 pub fn file() -> [u8; Network::LONGEST_FILE]
     ensures { λ r. ⌜ Room (longest .file) r ⌝ }
 {
@@ -13,6 +14,7 @@ pub fn file() -> [u8; Network::LONGEST_FILE]
 }
 
 // Room for one byte more than the longest file, so that a longer one is seen.
+// Rules out: 9,192 bytes, so that a file one byte too long is not seen; a byte other than 0.
 pub fn file_and_one() -> [u8; Network::LONGEST_FILE + 1]
     ensures { λ r. ⌜ Room (longest .file + 1) r ⌝ }
 {
@@ -20,6 +22,7 @@ pub fn file_and_one() -> [u8; Network::LONGEST_FILE + 1]
 }
 
 // Room for the longest tables.
+// Rules out: room without the alternates; a byte other than 0.
 pub fn tables() -> [u8; Network::LONGEST_TABLES]
     ensures { λ r. ⌜ Room (longest .tables) r ⌝ }
 {
@@ -27,6 +30,7 @@ pub fn tables() -> [u8; Network::LONGEST_TABLES]
 }
 
 // Room for the longest trail.
+// Rules out: 61 bytes, hops in the place of nodes; a byte other than 0.
 pub fn trail() -> [u8; Network::LONGEST_TRAIL]
     ensures { λ r. ⌜ Room (longest .trail) r ⌝ }
 {
@@ -34,6 +38,7 @@ pub fn trail() -> [u8; Network::LONGEST_TRAIL]
 }
 
 // Room for the longest report.
+// Rules out: room for the lines without the last one; a byte other than 0.
 pub fn report() -> [u8; Network::LONGEST_REPORT]
     ensures { λ r. ⌜ Room (longest .report) r ⌝ }
 {

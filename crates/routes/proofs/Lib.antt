@@ -5,4 +5,4 @@ pub mod Steps
 pub mod Filling
 pub mod Costs
 pub mod Exact
-pub mod Held
+pub mod ListedSets

@@ -15,6 +15,7 @@ ghost use Rattle.routes.specs.Costs.{rowOf, HoldsRow, costOf, costAt, Li
 const FAR: u32 = 1073741824;
 
 // The row in force for topology i: a part of one of the two lists.
+// Rules out: the row of the topology after; the links' own weights in a backup topology.
 pub fn row_in_force<'a>(weights: &'a [u16], rows: &'a [u16], m: usize, i: usize) -> &'a [u16]
     requires { ⌜ HoldsRow (now weights) (now rows) m i ⌝ }
     ensures { λ r. ⌜ now r ≡ rowOf (now (weights .entry)) (now (rows .entry)) m i ⌝ }
@@ -43,12 +44,14 @@ fn cost_of(p: u8, q: u8, i: u8, w: u16, r: u32) -> u32
     w as u32
 }
 
+// Rules out: one more than the byte; 0 for a byte above 127.
 pub fn wide(x: u8) -> usize
     ensures { λ r. ⌜ r ≡ x ⌝ }
 {
     x as usize
 }
 
+// Rules out: the entry after; the index in the place of the entry.
 pub fn end(a: &[u8], l: usize) -> u8
     requires { ⌜ l < length (now a) ⌝ }
     ensures { λ s. ⌜ s ≡ getD (now (a .entry)) l 0 ⌝ }
@@ -63,6 +66,7 @@ fn weight(row: &[u16], l: usize) -> u16
     row[l]
 }
 
+// Rules out: the cost of the link after; the index in the place of the cost.
 pub fn cost(c: &[u32], l: usize) -> u32
     requires { ⌜ l < length (now c) ⌝ }
     ensures { λ s. ⌜ s ≡ getD (now (c .entry)) l 0 ⌝ }
@@ -93,6 +97,8 @@ fn link_cost(
 }
 
 // The cost of every link in topology i, with its row in force and the restricted weight r.
+// Rules out: a usable cost for a link with both ends isolated `isolated_link_usable`; the row's weight for a link with one end
+// isolated.
 pub fn fill_costs(a: &[u8], b: &[u8], homes: &[u8], row: &[u16], i: u8, r: u32, c: &mut [u32])
     requires { ⌜ Links (now a) (now b) (now homes) (now row) (length (now c)) ⌝ }
     ensures { λ _. ⌜ now (c .exit) ≡ upTo (costAt (now (a .entry)) (now (b .entry)) (now (homes .entry)) (now (row .entry)) i r) (length (now (c .entry))) ⌝ }
@@ -240,6 +246,8 @@ fn settle(d: &mut [[u32; Network::LANES]])
 }
 
 // Column t: the distances toward t, of a topology whose links cost c.
+// Rules out: paths through node 0 overlooked `one_pass_too_few`; the passes by another node than theirs
+// `through_the_wrong_node`.
 pub fn distances(a: &[u8], b: &[u8], c: &[u32], d: &mut [[u32; Network::LANES]])
     requires { ⌜ Wired (now a) (now b) (now c) (length (now d)) ⌝ }
     ensures { λ _. ⌜ now (d .exit) ≡ settled (netOf (now (a .entry)) (now (b .entry)) (now (c .entry))) (length (now (d .entry))) ⌝ }

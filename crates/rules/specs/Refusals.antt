@@ -15,7 +15,7 @@ use Rattle.rules.specs.Forwarding.{faultOf, up, lentTables, packet}
 use Rattle.rules.specs.Report.{reportText}
 use Rattle.rules.specs.Answers.{refused}
 use Rattle.rules.specs.Entries.Entry.{Entry, Promise}
-use Rattle.rules.specs.Entries.Lists.{Lists}
+use Rattle.rules.specs.Entries.Lists.{Lists, LongLists}
 use Rattle.rules.specs.Entries.Read.{readEntry}
 use Rattle.rules.specs.Entries.Write.{WriteInput, setWith, writeEntry}
 use Rattle.rules.specs.Entries.Check.{checkEntry}
@@ -25,7 +25,6 @@ use Rattle.rules.specs.Entries.Step.{StepInput, stepEntry}
 use Rattle.rules.specs.Entries.Run.{RunInput, RunLent, runEntry}
 use Rattle.rules.specs.Entries.Report.{reportEntry}
 use Rattle.rules.specs.Sets.{WithinLimits, at, MeetsRules, Walk, Two}
-use Rattle.rules.specs.Demands.Two.{LongLists}
 use Rattle.rules.specs.Demands.Step.{InRange, Standing, LooksUp}
 use Rattle.rules.specs.Demands.Building.{Removable, topologiesNeeded, withTopologies}
 

@@ -88,6 +88,7 @@ impl Network {
         + Network::REPORT_LAST;
 
     // A header with these counts; whether they are within their limits is the judge's to say.
+    // Rules out: m and wmax exchanged; a count that is out of range set to its limit.
     pub fn header(n: u8, m: u16, k: u8, wmax: u16) -> Network
         ensures { λ r. ⌜ r ≡ record { n = n; m = m; k = k; wmax = wmax } ⌝ }
     {
@@ -95,6 +96,7 @@ impl Network {
     }
 
     // The sizes above, equal to those of the definitions.
+    // Rules out: 9,193 bytes for the longest file; 33,792 bytes for the longest tables, without the alternates.
     pub fn longest() -> Longest
         ensures { λ r. ⌜ r ≡ longest ⌝ }
     {
@@ -109,6 +111,7 @@ impl Network {
     // ---- sizes that follow from the counts, whatever they are
 
     // How many home records there are: n, or none in a graph alone.
+    // Rules out: n for a graph alone; k in the place of n.
     pub fn home_records(self) -> usize
         ensures { λ r. ⌜ (r ≡ homeRecords self) × (r < 256) ⌝ }
     {
@@ -116,6 +119,7 @@ impl Network {
     }
 
     // How many weights a row has.
+    // Rules out: 2m, bytes in the place of weights; n, a weight for each node.
     pub fn row_weights(self) -> usize
         ensures { λ r. ⌜ (r ≡ rowWeights self) × (r < 65536) ⌝ }
     {
@@ -123,12 +127,14 @@ impl Network {
     }
 
     // How many weights the rows have together.
+    // Rules out: (k + 1) × m, topology 0 counted too; k × n.
     pub fn row_entries(self) -> usize
         ensures { λ r. ⌜ r ≡ self .k * rowWeights self ⌝ }
     {
         times(self.k as usize, self.row_weights())
     }
 
+    // Rules out: 2m, without mark and topology; m + 3, one byte for a weight.
     pub fn row_length(self) -> usize
         ensures { λ r. ⌜ (r ≡ rowLength self) × (r < 262144) ⌝ }
     {
@@ -136,6 +142,7 @@ impl Network {
     }
 
     // How long the file is.
+    // Rules out: a set's length without its rows; one byte more.
     pub fn file_length(self) -> usize
         ensures { λ r. ⌜ r ≡ fileLength self ⌝ }
     {
@@ -146,6 +153,7 @@ impl Network {
     }
 
     // How many entries a table has.
+    // Rules out: n × (n - 1), without the diagonal; the square cut to 8 bits.
     pub fn table_entries(self) -> usize
         ensures { λ r. ⌜ (r ≡ self .n * self .n) × (r < 65536) ⌝ }
     {
@@ -153,6 +161,7 @@ impl Network {
     }
 
     // How long the tables are.
+    // Rules out: (k + 1) × n × n, without the alternates; two bytes for an entry.
     pub fn tables_length(self) -> usize
         ensures { λ r. ⌜ r ≡ tablesLength self ⌝ }
     {
@@ -161,6 +170,7 @@ impl Network {
     }
 
     // Where the entry of table i for node u and node t stands in the tables.
+    // Rules out: node and destination exchanged; the entry of the table after.
     pub fn entry_place(self, i: usize, u: u8, t: u8) -> usize
         requires { ⌜ i < 65536 ⌝ }
         ensures { λ r. ⌜ r ≡ entryPlace self i u t ⌝ }
@@ -171,6 +181,7 @@ impl Network {
     }
 
     // The room that a trail is given: 2n - 2.
+    // Rules out: 2n - 3, hops in the place of nodes; n.
     pub fn trail_room(self) -> usize
         ensures { λ r. ⌜ r ≡ trailRoom self ⌝ }
     {
@@ -182,6 +193,7 @@ impl Network {
     }
 
     // The most hops of a run: 2n - 3.
+    // Rules out: 2n - 4, one hop fewer than the longest run; 2n - 2, nodes in the place of hops.
     pub fn most_hops(self) -> u8
         requires { ⌜ (3 ≤ self .n) × (self .n ≤ 32) ⌝ }
         ensures { λ r. ⌜ r ≡ mostHops self ⌝ }
@@ -190,6 +202,7 @@ impl Network {
     }
 
     // How many detections a report has: the ordered pairs of different nodes.
+    // Rules out: n × (n - 2) `fewer_detections`; n × n, a node counted with itself.
     pub fn detections(self) -> usize
         requires { ⌜ (3 ≤ self .n) × (self .n ≤ 32) ⌝ }
         ensures { λ r. ⌜ r ≡ self .n * (self .n - 1) ⌝ }
@@ -199,6 +212,7 @@ impl Network {
     }
 
     // The weight of a restricted link: 2 × m × wmax.
+    // Rules out: m × wmax, each link counted once `restricted_weight_counts_a_link_once`; wmax + 1.
     pub fn restricted_weight(self) -> u32
         requires { ⌜ self .m ≤ 128 ⌝ }
         ensures { λ r. ⌜ r ≡ restrictedWeight self ⌝ }

@@ -8,6 +8,7 @@ ghost use lib.ListN.{getD};
 ghost use Rattle.rules.specs.File.{two};
 
 // The byte at a place, and 0 past the end.
+// Rules out: the byte before; anything but 0 past the end.
 pub fn byte(bytes: &[u8], at: usize) -> u8
     ensures { λ r. ⌜ r ≡ getD (now (bytes .entry)) at 0 ⌝ }
 {
@@ -15,6 +16,7 @@ pub fn byte(bytes: &[u8], at: usize) -> u8
 }
 
 // The two bytes at a place as one number, the first the higher.
+// Rules out: the lower byte first; the two bytes one place later.
 pub fn two(bytes: &[u8], at: usize) -> u16
     requires { ⌜ at < 4294967296 ⌝ }
     ensures { λ r. ⌜ r ≡ two (now (bytes .entry)) at ⌝ }
@@ -25,6 +27,7 @@ pub fn two(bytes: &[u8], at: usize) -> u16
 }
 
 // Entry i of a list of numbers of 16 bits, and 0 past its end.
+// Rules out: the entry after; anything but 0 past the end.
 pub fn entry(list: &[u16], i: usize) -> u16
     ensures { λ r. ⌜ r ≡ getD (now (list .entry)) i 0 ⌝ }
 {
@@ -32,6 +35,7 @@ pub fn entry(list: &[u16], i: usize) -> u16
 }
 
 // Entry i of a list of words, and 0 past its end.
+// Rules out: the entry after; anything but 0 past the end of the list.
 pub fn word(list: &[u32], i: usize) -> u32
     ensures { λ r. ⌜ r ≡ getD (now (list .entry)) i 0 ⌝ }
 {

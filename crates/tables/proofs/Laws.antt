@@ -19,7 +19,7 @@ use Rattle.rules.specs.Distance.{tableBytes}
 use Rattle.rules.specs.Judgement.{refuse, andThen, check, needRoom}
 use Rattle.rules.specs.Answers.{tell, lengthTells}
 use Rattle.rules.specs.Entries.Entry.{onAccept, Promise}
-use Rattle.rules.specs.Entries.Lists.{Lists, lists}
+use Rattle.rules.specs.Entries.Lists.{Lists, lists, LongLists}
 use Rattle.rules.specs.Entries.Write.{setWith}
 use Rattle.rules.specs.Entries.Tables.{tablesEntry}
 use Rattle.rules.specs.Sets.{WithinLimits, AcceptedSet}
@@ -29,8 +29,8 @@ use Rattle.rules.proofs.File.SetOfBytes.{net-held}
 use Rattle.rules.proofs.File.Checked.{checked-set}
 use Rattle.rules.proofs.Isolation.HomesAndRows.{homes-all}
 use Rattle.rules.proofs.Forwarding.LentTables.{bytes-long}
-use Rattle.reader.specs.Reading.{rowOf, listsOf, Room}
-use Rattle.tables.specs.Parts.{Exact, Wide, Held, tablesVerdict}
+use Rattle.reader.specs.Reading.{rowOf, listsOf}
+use Rattle.tables.specs.Parts.{Exact, Wide, HoldSet, tablesVerdict}
 
 -- ---- lists of exactly the right lengths hold just the set's
 
@@ -60,7 +60,7 @@ module _ (s : List ℕ) (h : Network) (n : h ≡ headerOf s) (c : check s ≡ Ac
       ap (setWith h) (q ∙ (λ i. record { a = a i; b = b i; weights = w i; homes = v i; rows = r i }))
       ∙ ap (λ (k : Network). record { net = k; a = upTo (endA s) (k .m); b = upTo (endB s) (k .m); weights = upTo (linkWeight s) (k .m); homes = upTo (homeTopology s k) (homeRecords k); rows = flat (λ j. upTo (rowWeight s k j) (rowWeights k)) (k .k) }) n
 
-pub room-of : (h : Network) (d : Lists) (s : List ℕ) → h ≡ headerOf s → check s ≡ Accepted → Exact h d → Room h d
+pub room-of : (h : Network) (d : Lists) (s : List ℕ) → h ≡ headerOf s → check s ≡ Accepted → Exact h d → LongLists h d
 room-of h d s n c x =
     record {
       a = omega (arith, x .a);
@@ -70,13 +70,13 @@ room-of h d s n c x =
       rows = omega (arith, x .rows);
     }
 
-pub lists-held : (s : List ℕ) (h : Network) (d e : Lists) → h ≡ headerOf s → check s ≡ Accepted → Exact h d → e ≡ listsOf s h d → Held s h e
+pub lists-held : (s : List ℕ) (h : Network) (d e : Lists) → h ≡ headerOf s → check s ≡ Accepted → Exact h d → e ≡ listsOf s h d → HoldSet s h e
 lists-held s h d e n c x q = record { checked = c; set = held s h n c d e x q }
 
-pub accepted-lists : (s : List ℕ) (h : Network) (d : Lists) → Held s h d → AcceptedSet (setWith h d)
+pub accepted-lists : (s : List ℕ) (h : Network) (d : Lists) → HoldSet s h d → AcceptedSet (setWith h d)
 accepted-lists s h d H = subst (λ (S : Set). AcceptedSet S) (sym (H .set)) (checked-set s (H .checked))
 
-pub tables-held : (s : List ℕ) (h : Network) (d : Lists) (t : List ℕ) → Held s h d → t ≡ tableBytes (setWith h d) → t ≡ tableBytes (setOf s)
+pub tables-held : (s : List ℕ) (h : Network) (d : Lists) (t : List ℕ) → HoldSet s h d → t ≡ tableBytes (setWith h d) → t ≡ tableBytes (setOf s)
 tables-held s h d t H g = g ∙ ap tableBytes (H .set)
 
 -- ---- parts of longer lists

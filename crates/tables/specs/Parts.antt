@@ -31,7 +31,7 @@ pub record Wide (d : Lists) : Type 0 where
   pub rows : largest .k * largest .m ≤ length (d .rows)
 
 -- lists that hold the set of an accepted file
-pub record Held (s : List ℕ) (h : Network) (d : Lists) : Type 0 where
+pub record HoldSet (s : List ℕ) (h : Network) (d : Lists) : Type 0 where
   pub checked : check s ≡ Accepted
   pub set : setWith h d ≡ setOf s
 

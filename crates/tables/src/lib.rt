@@ -20,7 +20,7 @@ ghost use Rattle.rules.specs.Judgement.{check};
 ghost use Rattle.rules.specs.Entries.Entry.{Promise};
 ghost use Rattle.rules.specs.Entries.Lists.{lists};
 ghost use Rattle.rules.specs.Entries.Tables.{tablesEntry};
-ghost use Rattle.tables.specs.Parts.{Exact, Wide, Held, tablesVerdict};
+ghost use Rattle.tables.specs.Parts.{Exact, Wide, HoldSet, tablesVerdict};
 
 // ---- from a file to its tables, by lists
 
@@ -35,7 +35,7 @@ fn by_lists<'a>(
     rows: &'a [u16],
     out: &mut [u8],
 )
-    requires { ⌜ Held (now file) net (lists (now a) (now b) (now weights) (now homes) (now rows)) ⌝ }
+    requires { ⌜ HoldSet (now file) net (lists (now a) (now b) (now weights) (now homes) (now rows)) ⌝ }
     requires { ⌜ length (now out) ≡ tablesLength net ⌝ }
     ensures { λ _. ⌜ now (out .exit) ≡ tableBytes (setOf (now (file .entry))) ⌝ }
 {
@@ -120,6 +120,8 @@ fn backup_weights() -> [u16; Network::MOST_ROW_WEIGHTS]
 }
 
 // The tables of an accepted set's file, into room of their length.
+// Rules out: paths through node 0 overlooked `routes/one_pass_too_few`; an alternate by the least distance to another node than
+// v `rules/alternate_by_the_first_link`.
 pub fn fill(file: &[u8], net: Network, out: &mut [u8])
     requires { ⌜ check (now file) ≡ Accepted ⌝ }
     requires { ⌜ net ≡ headerOf (now file) ⌝ }
@@ -154,6 +156,9 @@ fn tables_verdict(file: &[u8], room: usize) -> Verdict
 }
 
 // The tables of a set's file.
+// Rules out: 14 for a set that is itself refused `room_before_the_check`; 14 because there is more room than the tables need
+// `too_much_room_refused`; also `words/tie_by_leading_zeros`, `nexthops/alternate_may_be_v`, `routes/one_pass_too_few`,
+// `routes/isolated_link_usable`.
 pub fn tables(file: &[u8], out: &mut [u8]) -> LengthAnswer
     ensures { λ r. ⌜ Promise tablesEntry (now (file .entry)) (now (out .entry)) r (now (out .exit)) ⌝ }
 {

@@ -12,6 +12,7 @@ ghost use Rattle.rules.specs.Report.{digits, decimal};
 ghost use Rattle.text.specs.Text.{Wrote, field, numberRoom, fieldRoom, labelRoom, labelledRoom};
 
 // One byte.
+// Rules out: the same place given back, not the one after; the last byte overwritten where its own place is past the end.
 pub fn put(text: &mut [u8], at: usize, x: u8) -> usize
     requires { ⌜ at < 4294967296 ⌝ }
     ensures { λ r. ⌜ Wrote (now (text .entry)) at (x ∷ []) 1 r (now (text .exit)) ⌝ }
@@ -21,6 +22,7 @@ pub fn put(text: &mut [u8], at: usize, x: u8) -> usize
 }
 
 // A byte string.
+// Rules out: the last byte left out; the bytes in reverse.
 pub fn copy(text: &mut [u8], start: usize, bytes: &[u8]) -> usize
     requires { ⌜ (start < 16777216) × (length (now bytes) < 256) ⌝ }
     ensures { λ r. ⌜ Wrote (now (text .entry)) start (now (bytes .entry)) (length (now (bytes .entry))) r (now (text .exit)) ⌝ }
@@ -59,6 +61,7 @@ fn digits(text: &mut [u8], at: usize, x: usize, more: u8) -> usize
 }
 
 // A number in decimal.
+// Rules out: a 0 before other digits; the digits in reverse.
 pub fn number(text: &mut [u8], at: usize, x: usize) -> usize
     requires { ⌜ at < 16777216 ⌝ }
     ensures { λ r. ⌜ Wrote (now (text .entry)) at (decimal x) numberRoom r (now (text .exit)) ⌝ }
@@ -67,6 +70,7 @@ pub fn number(text: &mut [u8], at: usize, x: usize) -> usize
 }
 
 // A number after its label.
+// Rules out: the number before its label; the label alone.
 pub fn labelled(text: &mut [u8], at: usize, label: &[u8], x: usize) -> usize
     requires { ⌜ (at < 8388608) × (length (now label) ≤ labelRoom) ⌝ }
     ensures { λ r. ⌜ Wrote (now (text .entry)) at (now (label .entry) ++ decimal x) labelledRoom r (now (text .exit)) ⌝ }
@@ -76,6 +80,7 @@ pub fn labelled(text: &mut [u8], at: usize, label: &[u8], x: usize) -> usize
 }
 
 // A number and the space after it.
+// Rules out: no space after the number; two spaces after it.
 pub fn field(text: &mut [u8], at: usize, x: u8) -> usize
     requires { ⌜ at < 8388608 ⌝ }
     ensures { λ r. ⌜ Wrote (now (text .entry)) at (field x) fieldRoom r (now (text .exit)) ⌝ }
@@ -85,6 +90,7 @@ pub fn field(text: &mut [u8], at: usize, x: u8) -> usize
 }
 
 // A kind of change by its letter.
+// Rules out: S for kind T; a space for no change, which is a dash.
 pub fn letter(kind: Kind) -> u8
     ensures { λ r. ⌜ r ≡ letter kind ⌝ }
 {

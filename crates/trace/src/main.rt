@@ -27,7 +27,7 @@ fn one(file: &[u8], tables: &[u8], failure: Failure, p: Packet) -> Step
     requires { ⌜ judge (now file) ≡ Accepted ⌝ }
 {
     let net = layout::header(file);
-    hop::take(file, net, tables, failure, p)
+    onehop::take(file, net, tables, failure, p)
 }
 
 // One hop and its line; the packet after it.
@@ -94,7 +94,7 @@ fn run_link(file: &[u8], q: Question, a: u8, b: u8)
     requires { ⌜ judge (now file) ≡ Accepted ⌝ }
 {
     let net = layout::header(file);
-    let l = hop::link_between(file, net, a, b);
+    let l = onehop::link_between(file, net, a, b);
     if l < net.m {
         run(file, q, Failure::Link(l));
         return;

@@ -18,7 +18,7 @@ use Rattle.rules.specs.Forwarding.{Run, hops, trail, stop, firstKind, onward, a
 use Rattle.rules.proofs.Ground.Rows.{laid-more}
 use Rattle.slices.specs.Stores.{put}
 use Rattle.slices.proofs.Stores.{length-put, put-inside}
-use Rattle.hop.specs.Hop.{stepAt}
+use Rattle.onehop.specs.Hop.{stepAt}
 use Rattle.travel.specs.Trip.{runAt, journeyOf, RunsAs, Begun}
 
 -- ---- kinds

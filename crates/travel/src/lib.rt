@@ -1,7 +1,7 @@
 // A packet's run to its end by tables that are lent, as they are: step after step, each node visited written into the trail. `travel`
 // promises the run that the rules make under this failure, of at most so many hops: its outcome, hops, last topology and the kind of
 // its change, and every byte of the trail.
-use hop::take;
+use onehop::take;
 use rules::Failure;
 use rules::Journey;
 use rules::Kind;
@@ -16,7 +16,7 @@ ghost use Prim.Native.Nat.{_+_, _<_};
 ghost use lib.ListN.{length};
 ghost use Rattle.rules.specs.Forwarding.{firstKind};
 ghost use Rattle.slices.specs.Stores.{put};
-ghost use Rattle.hop.specs.Hop.{Judged};
+ghost use Rattle.onehop.specs.Hop.{Judged};
 ghost use Rattle.travel.specs.Trip.{RunsAs, Begun};
 
 // The kind of the first change: the one there was, or else this hop's.
@@ -97,6 +97,8 @@ fn go_on(
 }
 
 // The run of a packet, of at most so many hops; each node visited is written into the trail.
+// Rules out: delivered, where the hops allowed ran out before `delivery_claimed_before_arrival`; delivered, where the packet was
+// dropped `delivery_claimed_for_a_drop`.
 pub fn travel(
     file: &[u8],
     net: Network,

@@ -104,6 +104,7 @@ fn backup(file: &mut [u8], net: Network, list: &[u8], weights: &[u16])
 }
 
 // The whole file.
+// Rules out: every row laid over the first `every_row_at_the_first_place`; the rows before the homes.
 pub fn set(
     file: &mut [u8],
     net: Network,

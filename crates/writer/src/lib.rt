@@ -81,6 +81,9 @@ fn in_own_room(
 }
 
 // Writes the file of these lists into lent room.
+// Rules out: 14 for a set that breaks a rule too, which is told first `room_before_records`; 14 for a list that is too short,
+// which is 1 `short_list_is_fourteen`; also `judgement/every_home_judged_by_the_first`, `judgement/place_of_an_earlier_record`,
+// `every_row_at_the_first_place`.
 pub fn write(
     net: Network,
     a: &[u8],

@@ -1,4 +1,4 @@
-use Rattle.routes.proofs.Held.{holds-row}
+use Rattle.routes.proofs.ListedSets.{holds-row}
 use Rattle.engine.proofs.One.{costs-are, costs-links, few-links}
 use borrow.Author.Needs.{needs}
 use Rattle.engine.proofs.costs.Statement.{statement}

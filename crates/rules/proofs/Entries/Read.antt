@@ -6,11 +6,11 @@ use Rattle.rules.specs.declared.Network.{Network}
 use Rattle.rules.specs.declared.Verdict.the-variants.{Accepted}
 use Rattle.rules.specs.declared.ReadAnswer.the-variants as read
 use Rattle.rules.specs.File.{Set, headerOf, setOf}
-use Rattle.rules.specs.Entries.Lists.{Lists, needLists}
+use Rattle.rules.specs.Entries.Lists.{Lists, needLists, LongLists}
 use Rattle.rules.specs.Entries.Read.{listsWith, readEntry}
 use Rattle.rules.specs.Sets.{Bytes}
 use Rattle.rules.specs.Demands.Form.{AcceptsExactly, ThenGives, IsRead}
-use Rattle.rules.specs.Demands.Two.{LongLists, ReadMeets, ReadGives}
+use Rattle.rules.specs.Demands.Two.{ReadMeets, ReadGives}
 use Rattle.rules.proofs.Ground.Choices.{then-ok, then-first, then-second}
 use Rattle.rules.proofs.File.SetOfBytes.{net-held}
 use Rattle.rules.proofs.File.FileOf.{file-judged, file-header, file-set, judged-file}

@@ -9,11 +9,11 @@ use Rattle.rules.specs.Basics.{laid}
 use Rattle.rules.specs.Limits.{needCounts, rowWeights, homeRecords, fileLength}
 use Rattle.rules.specs.File.{Set, encode}
 use Rattle.rules.specs.Judgement.{judge}
-use Rattle.rules.specs.Entries.Lists.{Lists}
+use Rattle.rules.specs.Entries.Lists.{Lists, LongLists}
 use Rattle.rules.specs.Entries.Write.{WriteInput, setWith, writeEntry}
 use Rattle.rules.specs.Sets.{MeetsRules}
 use Rattle.rules.specs.Demands.Form.{AcceptsExactly, ThenGives, IsLength, Front}
-use Rattle.rules.specs.Demands.Two.{LongLists, cutTo, WriteMeets, WriteGives}
+use Rattle.rules.specs.Demands.Two.{cutTo, WriteMeets, WriteGives}
 use Rattle.rules.proofs.Ground.Choices.{refuse-ok, then-both, then-first, then-second}
 use Rattle.rules.proofs.Ground.Rows.{upTo-take}
 use Rattle.rules.proofs.File.Records.{counts-on}

@@ -10,10 +10,10 @@ use Rattle.rules.specs.declared.ReadAnswer.the-variants as read
 use Rattle.rules.specs.declared.LengthAnswer.the-variants as long
 use Rattle.rules.specs.Limits.{rowWeights, homeRecords, fileLength}
 use Rattle.rules.specs.File.{Set, encode}
-use Rattle.rules.specs.Entries.Lists.{Lists}
+use Rattle.rules.specs.Entries.Lists.{Lists, LongLists}
 use Rattle.rules.specs.Sets.{WithinLimits, MeetsRules}
 use Rattle.rules.specs.Demands.Form.{Front}
-use Rattle.rules.specs.Demands.Two.{LongLists, ReadGives, cutTo, SameBytes, SameLists, ReadsBack}
+use Rattle.rules.specs.Demands.Two.{ReadGives, cutTo, SameBytes, SameLists, ReadsBack}
 use Rattle.rules.proofs.File.Encoded.{encode-long}
 use Rattle.rules.proofs.File.WithinCounts.{same-set}
 use Rattle.rules.proofs.Entries.Read.{read-accepts, read-gives}

@@ -15,8 +15,7 @@ use Rattle.rules.specs.declared.Verdict.the-variants.{Accepted}
 use Rattle.rules.specs.Basics.{if_then_else_, need}
 use Rattle.rules.specs.Forwarding.{faultOf, failed}
 use Rattle.rules.specs.Judgement.{needSet, needGraph, needFailure, needPacket, needCap, sourceNumber, needSource, needRoom}
-use Rattle.rules.specs.Entries.Lists.{Lists, needLists}
-use Rattle.rules.specs.Demands.Two.{LongLists}
+use Rattle.rules.specs.Entries.Lists.{Lists, needLists, LongLists}
 use Rattle.rules.specs.Demands.Step.{InRange, Standing}
 use Rattle.rules.specs.Refusals.{Known}
 use Rattle.rules.proofs.Ground.Choices.{need-yes, need-lt, need-le, need-ok, refuse-ok, refuse-zero, numbers}

@@ -23,7 +23,7 @@ use Rattle.rules.specs.Building.{fits, built, spared, buildNumber}
 use Rattle.rules.specs.Judgement.{refuse, andThen, inTurn, needMark, headerNumber, rises, linkNumber, homeNumber, rowWeightFits, rowNumber, records, judge, needSet, needGraph, topologies, check, needFailure, needPacket, needCap, needFit, sourceNumber, needSource, needRoom}
 use Rattle.rules.specs.Report.{reportText}
 use Rattle.rules.specs.Entries.Entry.{Entry, NothingLent}
-use Rattle.rules.specs.Entries.Lists.{Lists, needLists}
+use Rattle.rules.specs.Entries.Lists.{Lists, needLists, LongLists}
 use Rattle.rules.specs.Entries.Read.{readEntry}
 use Rattle.rules.specs.Entries.Write.{WriteInput, setWith, writeEntry}
 use Rattle.rules.specs.Entries.Check.{checkEntry}
@@ -33,7 +33,6 @@ use Rattle.rules.specs.Entries.Step.{StepInput, lookupsOf, stepEntry}
 use Rattle.rules.specs.Entries.Run.{RunInput, RunLent, runEntry}
 use Rattle.rules.specs.Entries.Report.{reportEntry}
 use Rattle.rules.specs.Sets.{WithinLimits, MeetsRules}
-use Rattle.rules.specs.Demands.Two.{LongLists}
 use Rattle.rules.specs.Demands.Step.{InRange, Standing, LooksUp}
 use Rattle.rules.specs.Demands.Building.{Removable, topologiesNeeded, withTopologies}
 use Rattle.rules.specs.Refusals.{EndsInOrder, RowFits, RecordFault, link-mark, home-mark, row-mark, link-ends, link-weight, row-weight, home-wrong, row-topology, FileFault, under, other-length, header-mark, counts, in-record, TopologyFault, backbone-apart, too-few, Known, ReadFault, WriteFault, CheckFault, BuildFault, TablesFault, StepFault, RunFault, ReportFault, SaysSo, RefusalsSaySo}

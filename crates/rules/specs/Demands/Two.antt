@@ -18,7 +18,7 @@ use Rattle.rules.specs.Distance.{Path, LeastTotal, distance, nextHop, ca
 use Rattle.rules.specs.Forwarding.{entryPlace}
 use Rattle.rules.specs.Judgement.{judge, check}
 use Rattle.rules.specs.Entries.Entry.{Promise, NothingLent}
-use Rattle.rules.specs.Entries.Lists.{Lists}
+use Rattle.rules.specs.Entries.Lists.{Lists, LongLists}
 use Rattle.rules.specs.Entries.Read.{readEntry}
 use Rattle.rules.specs.Entries.Write.{WriteInput, writeEntry}
 use Rattle.rules.specs.Entries.Check.{checkEntry}
@@ -69,14 +69,6 @@ abbrev pub FilesLaidOut : Type 0
 FilesLaidOut = (S : Set) → LaidOut S (encode S)
 
 -- ---- read
-
--- each of the five lists is as long as the counts need, or longer
-pub record LongLists (h : Network) (d : Lists) : Type 0 where
-  pub a : h .m ≤ length (d .a)
-  pub b : h .m ≤ length (d .b)
-  pub weights : h .m ≤ length (d .weights)
-  pub homes : homeRecords h ≤ length (d .homes)
-  pub rows : h .k * rowWeights h ≤ length (d .rows)
 
 -- read accepts exactly when the bytes are a set's, or a graph's, and every list has room
 pub record ReadMeets (S : Set) (s : List ℕ) (d : Lists) : Type 0 where

@@ -1,6 +1,6 @@
 -- The five lists that `read` is lent and `write` is given.
 use mathlib.Core.List.{List}
-use Prim.Native.Nat.{ℕ, _*_}
+use Prim.Native.Nat.{ℕ, _*_, _≤_}
 use lib.Dec.{leb}
 use lib.ListN.{length}
 use Rattle.rules.specs.declared.Network.{Network}
@@ -31,3 +31,11 @@ needLists number h d =
     (need (leb (homeRecords h) (length (d .homes))) number
     (need (leb (h .k * rowWeights h) (length (d .rows))) number 0)))))
     0
+
+-- each of the five lists is as long as the counts need, or longer
+pub record LongLists (h : Network) (d : Lists) : Type 0 where
+  pub a : h .m ≤ length (d .a)
+  pub b : h .m ≤ length (d .b)
+  pub weights : h .m ≤ length (d .weights)
+  pub homes : homeRecords h ≤ length (d .homes)
+  pub rows : h .k * rowWeights h ≤ length (d .rows)
