@@ -102,7 +102,7 @@ fn read_twos(
         too_large(name);
         return;
     }
-    read_into(name, file, a, b, &mut w[..weights], homes, &mut r[..rows]);
+    read_into(name, file, a, b, &mut w[0..weights], homes, &mut r[0..rows]);
 }
 
 fn read_with_twos(
@@ -142,7 +142,7 @@ fn read_bytes(
         too_large(name);
         return;
     }
-    read_with_twos(name, words, file, &mut x[..a], &mut y[..b], &mut h[..homes]);
+    read_with_twos(name, words, file, &mut x[0..a], &mut y[0..b], &mut h[0..homes]);
 }
 
 fn read(name: &[u8], words: &[u8], file: &[u8]) {
@@ -184,7 +184,7 @@ fn build_front(name: &[u8], graph: &[u8], cap: u8, file: &mut [u8], long: usize)
         too_large(name);
         return;
     }
-    build_into(name, graph, cap, &mut file[..long]);
+    build_into(name, graph, cap, &mut file[0..long]);
 }
 
 fn build(name: &[u8], words: &[u8], graph: &[u8]) {
@@ -234,7 +234,7 @@ fn run_front(
         too_large(name);
         return;
     }
-    run_into(name, set, source, destination, failure, &mut tables[..a], &mut trail[..b]);
+    run_into(name, set, source, destination, failure, &mut tables[0..a], &mut trail[0..b]);
 }
 
 // The room that word i asks for, or all of it where there is no such word.

@@ -18,7 +18,7 @@ use text::word;
 
 fn answered(name: &[u8], words: &[u8], file: &[u8], long: usize) {
     if long <= file.len() {
-        entry::answer(name, words, &file[..long]);
+        entry::answer(name, words, &file[0..long]);
         return;
     }
     entry::unclear(name);

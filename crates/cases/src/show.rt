@@ -26,6 +26,17 @@ fn two(x: u16) {
     number(x as u64);
 }
 
+// An entry of a list, after a space.
+fn next(x: u8) {
+    text(b" ");
+    small(x);
+}
+
+fn next_two(x: u16) {
+    text(b" ");
+    two(x);
+}
+
 pub fn named(name: &[u8]) {
     text(name);
     text(b": ");
@@ -71,12 +82,9 @@ pub fn read(name: &[u8], r: ReadAnswer) {
     match r {
         ReadAnswer::Read(net) => {
             small(net.n);
-            text(b" ");
-            two(net.m);
-            text(b" ");
-            small(net.k);
-            text(b" ");
-            two(net.wmax);
+            next_two(net.m);
+            next(net.k);
+            next_two(net.wmax);
             text(b"\n");
         }
         ReadAnswer::Refused { number, place } => refusal(number, place),
@@ -90,8 +98,7 @@ pub fn bytes(name: &[u8], list: &[u8]) {
     text(name);
     let mut i = 0;
     while i < list.len() {
-        text(b" ");
-        small(list[i]);
+        next(list[i]);
         i += 1;
     }
     text(b"\n");
@@ -101,8 +108,7 @@ pub fn twos(name: &[u8], list: &[u16]) {
     text(name);
     let mut i = 0;
     while i < list.len() {
-        text(b" ");
-        two(list[i]);
+        next_two(list[i]);
         i += 1;
     }
     text(b"\n");
@@ -122,8 +128,7 @@ pub fn homes(set: &[u8]) {
     let n = file::header(set).n;
     let mut v: u8 = 0;
     while v < n {
-        text(b" ");
-        small(file::home(set, v));
+        next(file::home(set, v));
         v += 1;
     }
     text(b"\n");
@@ -134,8 +139,7 @@ fn row(set: &[u8], j: u8) {
     let m = file::header(set).m;
     let mut x: u16 = 0;
     while x < m {
-        text(b" ");
-        two(file::row_weight(set, j, x));
+        next_two(file::row_weight(set, j, x));
         x += 1;
     }
     text(b"\n");

@@ -1,63 +1,44 @@
+use borrow.Author.Needs.{needs}
+use Prim.Native.Nat.{_-_, _≤_}
+use lib.ListN.{length}
 use Rattle.cases.proofs.show.bytes.Statement.{statement}
 use Rattle.cases.proofs.show.bytes.Tie as tie
-use Rattle.cases.proofs.show.bytes.Reads as reads
-use Rattle.cases.proofs.show.bytes.Lts as lts
-use Rattle.cases.proofs.show.small.Reads as small-reads
-use Rattle.cases.proofs.show.text.Reads as text-reads
 
 abbrev Inv-loop : tie.InvT-loop
-Inv-loop name list i₀ t4 t5 i = ?
+Inv-loop name list i₀ t4 i = i ≤ length list
 
 abbrev μ-loop : tie.MeasureT-loop
-μ-loop name list i₀ t4 t5 i = ?
+μ-loop name list i₀ t4 i = length list - i
 
--- src/show.rt:90:5
 text-requires : tie.Need-text-requires Inv-loop μ-loop
-text-requires c κs = ?
+text-requires c κs = search needs
 
--- src/show.rt:92:5
 loop-holds : tie.Need-loop-holds Inv-loop μ-loop
-loop-holds c = ?
+loop-holds c = search needs
 
--- src/show.rt:93:14
-slice-aggregate-text : tie.Need-slice-aggregate-text Inv-loop μ-loop
-slice-aggregate-text c = ?
+shared-slice-read-next : tie.Need-shared-slice-read-next Inv-loop μ-loop
+shared-slice-read-next c = search needs
 
--- src/show.rt:93:9
-text-requires-2 : tie.Need-text-requires-2 Inv-loop μ-loop
-text-requires-2 c κs = ?
+next-requires : tie.Need-next-requires Inv-loop μ-loop
+next-requires c κs = search needs
 
--- src/show.rt:94:15
-shared-slice-read-small : tie.Need-shared-slice-read-small Inv-loop μ-loop
-shared-slice-read-small c = ?
-
--- src/show.rt:94:9
-small-requires : tie.Need-small-requires Inv-loop μ-loop
-small-requires c κs = ?
-
--- src/show.rt:95:9
 add-i : tie.Need-add-i Inv-loop μ-loop
-add-i c = ?
+add-i c = search needs
 
--- src/show.rt:92:5
 loop-less : tie.Need-loop-less Inv-loop μ-loop
-loop-less c = ?
+loop-less c = search needs
 
--- src/show.rt:92:5
 loop-again : tie.Need-loop-again Inv-loop μ-loop
-loop-again c = ?
+loop-again c = search needs
 
--- src/show.rt:97:10
-slice-aggregate-text-2 : tie.Need-slice-aggregate-text-2 Inv-loop μ-loop
-slice-aggregate-text-2 c = ?
+slice-aggregate-text : tie.Need-slice-aggregate-text Inv-loop μ-loop
+slice-aggregate-text c = search needs
 
--- src/show.rt:97:5
-text-requires-3 : tie.Need-text-requires-3 Inv-loop μ-loop
-text-requires-3 c κs = ?
+text-requires-2 : tie.Need-text-requires-2 Inv-loop μ-loop
+text-requires-2 c κs = search needs
 
--- src/show.rt:89:1
 returns : tie.Need-returns Inv-loop μ-loop
-returns c = ?
+returns c = search needs
 
 pub bytes-spec : {M : Type 1} → statement M
 bytes-spec =
@@ -67,13 +48,11 @@ bytes-spec =
     μ-loop
     text-requires
     loop-holds
-    slice-aggregate-text
-    text-requires-2
-    shared-slice-read-small
-    small-requires
+    shared-slice-read-next
+    next-requires
     add-i
     loop-less
     loop-again
-    slice-aggregate-text-2
-    text-requires-3
+    slice-aggregate-text
+    text-requires-2
     returns)
