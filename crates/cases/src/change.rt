@@ -1,85 +1,65 @@
-// The changes that a case makes to its file, one after the other: `long N` cuts it to N bytes, or lengthens it with zero bytes;
-// `byte P V` makes its byte P a V.
+// The changes that a case makes to its file. The file goes on with zero bytes: `byte P V` changes byte P, and `long N` says how many
+// bytes are the file.
+use crate::text::NONE;
 use crate::text::has_word;
-use crate::text::is;
+use crate::text::name;
 use crate::text::number;
-use crate::text::word;
-use console::Number;
-use console::number_in;
 use std::num::wrapping_add_usize;
+use std::num::wrapping_sub_usize;
+
+const LONG: u64 = 0x6c6f6e67;
+
+const BYTE: u64 = 0x62797465;
 
 // No case has more changes.
 const MOST: usize = 40;
 
-// How far the words are taken, and how long the file is then.
-pub struct Changed {
-    pub next: usize,
-    pub long: usize,
+// The next word to be taken, and how long the file is so far.
+struct Changed {
+    next: usize,
+    long: usize,
 }
 
-// Word i begins a change.
-pub fn begins(words: &[u8], i: usize) -> bool {
-    if is(words, i, b"long") {
-        return true;
-    }
-    is(words, i, b"byte")
-}
-
-fn clear(bytes: &mut [u8]) {
-    let mut i = 0;
-    while i < bytes.len() {
-        bytes[i] = 0;
-        i += 1;
-    }
-}
-
-fn put(file: &mut [u8], at: usize, value: u8) {
-    if at < file.len() {
-        file[at] = value;
-    }
-}
-
-// What lies past the end is 0.
-fn lengthen(words: &[u8], c: Changed, file: &mut [u8]) -> Changed {
-    let long = number(words, wrapping_add_usize(c.next, 1));
-    if long > file.len() {
-        return c;
-    }
-    clear(&mut file[long..]);
+fn lengthened(words: &[u8], c: Changed) -> Changed {
     Changed {
         next: wrapping_add_usize(c.next, 2),
-        long,
+        long: number(words, wrapping_add_usize(c.next, 1)),
     }
 }
 
+fn put(file: &mut [u8], at: usize, value: usize) -> bool {
+    if at < file.len() {
+        if value < 256 {
+            file[at] = value as u8;
+            return true;
+        }
+    }
+    false
+}
+
+// Where there is no such byte, or no such value, the word is not taken.
 fn put_byte(words: &[u8], c: Changed, file: &mut [u8]) -> Changed {
     let at = number(words, wrapping_add_usize(c.next, 1));
-    if at >= c.long {
-        return c;
-    }
-    let Number::Given(value) = number_in(word(words, wrapping_add_usize(c.next, 2))) else {
-        return c;
-    };
-    put(file, at, value);
-    Changed {
-        next: wrapping_add_usize(c.next, 3),
-        long: c.long,
-    }
-}
-
-// The next change, if there is one that is understood.
-fn one(words: &[u8], c: Changed, file: &mut [u8]) -> Changed {
-    if is(words, c.next, b"long") {
-        return lengthen(words, c, file);
-    }
-    if is(words, c.next, b"byte") {
-        return put_byte(words, c, file);
+    let value = number(words, wrapping_add_usize(c.next, 2));
+    if put(file, at, value) {
+        return Changed {
+            next: wrapping_add_usize(c.next, 3),
+            long: c.long,
+        };
     }
     c
 }
 
-fn each(words: &[u8], file: &mut [u8], long: usize) -> Changed {
-    let mut c = Changed { next: 0, long };
+fn one(words: &[u8], c: Changed, file: &mut [u8]) -> Changed {
+    match name(words, c.next) {
+        LONG => lengthened(words, c),
+        BYTE => put_byte(words, c, file),
+        _ => c,
+    }
+}
+
+fn each(words: &[u8], from: usize, file: &mut [u8], long: usize) -> Changed {
+    let mut c = Changed { next: from, long };
     let mut turn = 0;
     while turn < MOST {
         c = one(words, c, file);
@@ -88,11 +68,14 @@ fn each(words: &[u8], file: &mut [u8], long: usize) -> Changed {
     c
 }
 
-// Makes the changes that all these words ask for, and gives the file's new length; NONE where a word is left.
-pub fn all(words: &[u8], file: &mut [u8], long: usize) -> usize {
-    let c = each(words, file, long);
+// The file's length after the changes that the words from `from` on ask for; NONE where a word is missing or left.
+pub fn all(words: &[u8], from: usize, file: &mut [u8], long: usize) -> usize {
+    let c = each(words, from, file, long);
     if has_word(words, c.next) {
-        return crate::text::NONE;
+        return NONE;
     }
-    c.long
+    if has_word(words, wrapping_sub_usize(c.next, 1)) {
+        return c.long;
+    }
+    NONE
 }

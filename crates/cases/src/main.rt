@@ -3,112 +3,82 @@ mod change; // change.rt: the changes that a case makes to its file
 mod entry; // entry.rt: what is asked of the file, one function for each entry
 mod file; // file.rt: the bytes of a file
 mod room; // room.rt: rooms that are lent
+mod run; // run.rt: one run
 mod show; // show.rt: what is written
 mod sweep; // sweep.rt: every single failure of a set
 mod text; // text.rt: words and numbers
 
 use console::file_room;
 use file::byte;
-use std::num::wrapping_add_usize;
+use text::NONE;
 use text::part;
-use text::space;
 use text::word;
 
 // ---- one case
 
-fn answered(name: &[u8], words: &[u8], file: &[u8], long: usize) {
-    if long <= file.len() {
-        entry::answer(name, words, &file[0..long]);
-        return;
+// The length of the file with this name, which is read into the room; NONE where there is no such file.
+fn stored(name: &[u8], room: &mut [u8]) -> usize {
+    let fd = os::open_read(name);
+    if fd < 0 {
+        return NONE;
     }
-    entry::unclear(name);
-}
-
-// Where the changes begin: before the first word that begins one.
-fn own_words(words: &[u8]) -> usize {
-    let long = words.len();
-    let mut i = 0;
-    while i < long {
-        if change::begins(words, i) {
-            return space(words, i);
-        }
-        i += 1;
-    }
+    let long = io::read_full(fd, room);
+    libc::close(fd);
     long
 }
 
-fn changed(name: &[u8], words: &[u8], file: &mut [u8], long: usize) {
-    let own = own_words(words);
-    let size = change::all(part(words, own, words.len()), file, long);
-    answered(name, part(words, 0, own), file, size);
-}
-
-fn opened(name: &[u8], words: &[u8], file: &mut [u8]) {
-    let fd = os::open_read(word(words, 1));
-    if fd < 0 {
-        show::line(name, b"no such file");
+fn answered(words: &[u8], file: &[u8], long: usize) {
+    if long > file.len() {
+        show::unclear();
         return;
     }
-    let long = io::read_full(fd, file);
-    libc::close(fd);
-    changed(name, words, file, long);
+    entry::answer(words, &file[0..long]);
 }
 
-fn case(name: &[u8], words: &[u8]) {
+fn changed(words: &[u8], file: &mut [u8]) {
+    let long = stored(word(words, 1), file);
+    let size = change::all(words, entry::own_words(words), file, long);
+    answered(words, file, size);
+}
+
+fn case(words: &[u8]) {
     let mut file = file_room();
-    opened(name, words, &mut file);
+    changed(words, &mut file);
 }
 
 // ---- the list
 
-// Where the last colon stands, or the line's end.
-fn last_colon(line: &[u8]) -> usize {
-    let long = line.len();
-    let mut last = long;
-    let mut i = 0;
-    while i < long {
-        if byte(line, i) == b':' {
-            last = i;
+fn line(list: &[u8], start: usize, colon: usize, end: usize) {
+    match byte(list, start) {
+        0 | b'\n' | b'#' => (),
+        _ => {
+            show::text(part(list, start, colon));
+            case(part(list, colon, end));
         }
-        i += 1;
     }
-    last
-}
-
-fn one_line(line: &[u8]) {
-    if line.len() == 0 {
-        return;
-    }
-    if byte(line, 0) == b'#' {
-        return;
-    }
-    let colon = last_colon(line);
-    let words = part(line, wrapping_add_usize(colon, 1), line.len());
-    case(part(line, 0, colon), words);
 }
 
 fn each_line(list: &[u8]) {
-    let long = list.len();
     let mut start = 0;
+    let mut colon = 0;
     let mut i = 0;
-    while i < long {
-        if byte(list, i) == b'\n' {
-            one_line(part(list, start, i));
-            start = i + 1;
+    while i < list.len() {
+        match byte(list, i) {
+            b'\n' => {
+                line(list, start, colon, i);
+                start = i + 1;
+                colon = i;
+            }
+            b':' => colon = i,
+            _ => (),
         }
         i += 1;
     }
-    one_line(part(list, start, long));
+    line(list, start, colon, list.len());
 }
 
 fn main() {
-    let fd = os::open_read(b"cases");
-    if fd < 0 {
-        show::text(b"no list of cases\n");
-        return;
-    }
     let mut list = io::large_buffer();
-    let long = io::read_full(fd, &mut list);
-    libc::close(fd);
-    each_line(&list[..long]);
+    let long = stored(b"cases", &mut list);
+    each_line(part(&list, 0, long));
 }

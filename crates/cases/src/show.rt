@@ -1,199 +1,195 @@
-// What is written: one line for each answer, and lines below it that begin with two spaces.
-use crate::file;
-use crate::text::part;
+// What is written. A line begins with the case's name; what follows is phrases and numbers.
+use crate::file::byte;
+use crate::text::least;
+use crate::text::piece;
 use libc::STDOUT_FILENO;
-use rules::Journey;
-use rules::Kind;
 use rules::LengthAnswer;
-use rules::Outcome;
 use rules::ReadAnswer;
-use rules::RunAnswer;
 use rules::Verdict;
+use std::num::wrapping_add_usize;
 
 pub fn text(s: &[u8]) {
     io::write_all(STDOUT_FILENO, s);
 }
 
-pub fn number(x: u64) {
+pub fn put(x: u8) {
+    io::write_all(STDOUT_FILENO, &[x]);
+}
+
+// A number after a space.
+pub fn next(x: u64) {
+    put(b' ');
     io::print_decimal(STDOUT_FILENO, x);
 }
 
-pub fn small(x: u8) {
-    number(x as u64);
+pub fn end() {
+    put(b'\n');
 }
 
-fn two(x: u16) {
-    number(x as u64);
+// ---- phrases, by their places in one text
+
+pub const DELIVERED: usize = 0;
+
+pub const DROPPED: usize = 1;
+
+pub const REFUSED: usize = 2;
+
+pub const UNDER_WAY: usize = 3;
+
+pub const UNCHANGED: usize = 4;
+
+pub const KIND_T: usize = 5;
+
+pub const KIND_S: usize = 6;
+
+pub const KIND_D: usize = 7;
+
+const TAKEN: usize = 8;
+
+const AT: usize = 9;
+
+const BYTES: usize = 10;
+
+pub const HOPS: usize = 11;
+
+pub const TOPOLOGY: usize = 12;
+
+pub const KIND: usize = 13;
+
+pub const TRAIL: usize = 14;
+
+pub const WRONG: usize = 15;
+
+pub const FROM: usize = 16;
+
+pub const TO: usize = 17;
+
+pub const ENDS_A: usize = 18;
+
+pub const ENDS_B: usize = 19;
+
+pub const WEIGHTS: usize = 20;
+
+pub const HOMES: usize = 21;
+
+pub const ROWS: usize = 22;
+
+pub const ROW: usize = 23;
+
+pub const ITS_CHECK: usize = 24;
+
+pub const BYTE_AFTER: usize = 25;
+
+pub const FIRST_BYTE: usize = 26;
+
+pub const LONGEST: usize = 27;
+
+pub const COMMA: usize = 28;
+
+pub const UNCLEAR: usize = 29;
+
+pub fn say(phrase: usize) {
+    text(piece(
+        b"| delivered| dropped| refused| under way| -| T| S| D| taken| at| bytes| hops| topology| kind| trail| WRONG| from| to|  ends a|  ends b|  weights|  homes|  rows|  row|  its check|  the byte after it|  first lent byte|, longest|,|: not understood: an unknown word, no such file, or more room than there is",
+        b'|',
+        phrase,
+    ));
 }
 
-// An entry of a list, after a space.
-fn next(x: u8) {
-    text(b" ");
-    small(x);
-}
-
-fn next_two(x: u16) {
-    text(b" ");
-    two(x);
-}
-
-pub fn named(name: &[u8]) {
-    text(name);
-    text(b": ");
-}
-
-// A line that says only this of a case.
-pub fn line(name: &[u8], said: &[u8]) {
-    named(name);
-    text(said);
-    text(b"\n");
-}
-
-fn refusal(n: u8, place: usize) {
-    small(n);
-    text(b" at ");
-    number(place as u64);
-    text(b"\n");
+pub fn unclear() {
+    say(UNCLEAR);
+    end();
 }
 
 // ---- answers
 
-pub fn verdict(name: &[u8], v: Verdict) {
-    named(name);
+pub fn refusal(number: u8, place: usize) {
+    next(number as u64);
+    say(AT);
+    next(place as u64);
+    end();
+}
+
+fn taken() {
+    say(TAKEN);
+    end();
+}
+
+pub fn verdict(v: Verdict) {
+    put(b':');
     match v {
-        Verdict::Accepted => text(b"taken\n"),
+        Verdict::Accepted => taken(),
         Verdict::Refused { number, place } => refusal(number, place),
     }
 }
 
-pub fn length(name: &[u8], r: LengthAnswer) {
-    named(name);
+fn bytes(long: usize) {
+    next(long as u64);
+    say(BYTES);
+    end();
+}
+
+pub fn length(r: LengthAnswer) {
+    put(b':');
     match r {
-        LengthAnswer::Length(bytes) => {
-            number(bytes as u64);
-            text(b" bytes\n");
-        }
+        LengthAnswer::Length(long) => bytes(long),
         LengthAnswer::Refused { number, place } => refusal(number, place),
     }
 }
 
-pub fn read(name: &[u8], r: ReadAnswer) {
-    named(name);
+fn counts(n: u8, m: u16, k: u8, wmax: u16) {
+    next(n as u64);
+    next(m as u64);
+    next(k as u64);
+    next(wmax as u64);
+    end();
+}
+
+pub fn read(r: ReadAnswer) {
+    put(b':');
     match r {
-        ReadAnswer::Read(net) => {
-            small(net.n);
-            next_two(net.m);
-            next(net.k);
-            next_two(net.wmax);
-            text(b"\n");
-        }
+        ReadAnswer::Read(net) => counts(net.n, net.m, net.k, net.wmax),
         ReadAnswer::Refused { number, place } => refusal(number, place),
     }
 }
 
 // ---- lists
 
-// A list's entries, after its name.
-pub fn bytes(name: &[u8], list: &[u8]) {
-    text(name);
+fn number_at(file: &[u8], at: usize, width: usize) {
+    match width {
+        1 => next(byte(file, at) as u64),
+        _ => next(256 * (byte(file, at) as u64) + byte(file, wrapping_add_usize(at, 1)) as u64),
+    }
+}
+
+// So many numbers of one or two bytes, the first at `from`, and each so many bytes after the one before.
+pub fn numbers(title: usize, file: &[u8], from: usize, step: usize, width: usize, count: usize) {
+    say(title);
+    let mut at = from;
     let mut i = 0;
-    while i < list.len() {
-        next(list[i]);
+    while i < count {
+        number_at(file, at, width);
+        at = wrapping_add_usize(at, step);
         i += 1;
     }
-    text(b"\n");
+    end();
 }
 
-pub fn twos(name: &[u8], list: &[u16]) {
-    text(name);
+pub fn list(title: usize, list: &[u8; 256], count: usize) {
+    numbers(title, list, 0, 1, 1, count);
+}
+
+fn next_wide(x: u16) {
+    next(x as u64);
+}
+
+pub fn wide_list(title: usize, list: &[u16; 8192], count: usize) {
+    say(title);
+    let most = least(count, 8192);
     let mut i = 0;
-    while i < list.len() {
-        next_two(list[i]);
+    while i < most {
+        next_wide(list[i]);
         i += 1;
     }
-    text(b"\n");
-}
-
-// The byte at a place of the lent file.
-pub fn byte(name: &[u8], file: &[u8], at: usize) {
-    text(name);
-    small(file::byte(file, at));
-    text(b"\n");
-}
-
-// ---- a set's homes and rows
-
-pub fn homes(set: &[u8]) {
-    text(b"  homes");
-    let n = file::header(set).n;
-    let mut v: u8 = 0;
-    while v < n {
-        next(file::home(set, v));
-        v += 1;
-    }
-    text(b"\n");
-}
-
-fn row(set: &[u8], j: u8) {
-    text(b"  row");
-    let m = file::header(set).m;
-    let mut x: u16 = 0;
-    while x < m {
-        next_two(file::row_weight(set, j, x));
-        x += 1;
-    }
-    text(b"\n");
-}
-
-pub fn rows(set: &[u8]) {
-    let k = file::header(set).k;
-    let mut j: u8 = 0;
-    while j < k {
-        row(set, j);
-        j += 1;
-    }
-}
-
-// ---- a run
-
-fn outcome(o: Outcome) {
-    match o {
-        Outcome::UnderWay => text(b" under way"),
-        Outcome::Delivered => text(b" delivered"),
-        Outcome::Dropped => text(b" dropped"),
-    }
-}
-
-fn kind(k: Kind) {
-    match k {
-        Kind::Unchanged => text(b"-"),
-        Kind::T => text(b"T"),
-        Kind::S => text(b"S"),
-        Kind::D => text(b"D"),
-    }
-}
-
-// The nodes visited are one more than the hops.
-fn journey(j: Journey, trail: &[u8]) {
-    let o = j.outcome;
-    outcome(o);
-    text(b" hops ");
-    small(j.hops);
-    text(b" topology ");
-    small(j.topology);
-    text(b" kind ");
-    let k = j.kind;
-    kind(k);
-    bytes(b" trail", part(trail, 0, j.hops as usize + 1));
-}
-
-pub fn run(name: &[u8], r: RunAnswer, trail: &[u8]) {
-    text(name);
-    match r {
-        RunAnswer::Ended(j) => journey(j, trail),
-        RunAnswer::Refused { number, place } => {
-            text(b" refused ");
-            refusal(number, place);
-        }
-    }
+    end();
 }

@@ -1,16 +1,11 @@
 // Every single failure of a set, with every source and every other destination. Each run must be delivered in at most 2n - 3 hops;
 // dropped where its destination is the failed node; refused by 12 where its source is.
-use crate::file;
-use crate::room;
-use crate::show::named;
-use crate::show::number;
-use crate::show::small;
-use crate::show::text;
+use crate::file::header;
+use crate::run::End;
+use crate::run::run;
+use crate::show;
 use rules::Failure;
-use rules::Journey;
 use rules::Network;
-use rules::Outcome;
-use rules::RunAnswer;
 use std::num::wrapping_add_u64;
 
 // How many runs ended in which way, and the most hops of any.
@@ -18,179 +13,133 @@ struct Tally {
     delivered: u64,
     dropped: u64,
     refused: u64,
-    longest: u8,
+    longest: u64,
 }
 
-// v is the failed node.
-fn is_failed(failure: Failure, v: u8) -> bool {
-    match failure {
-        Failure::Nothing => false,
-        Failure::Link(_) => false,
-        Failure::Node(w) => v == w,
+// Failure 0 is nothing; then come the links, and then the nodes.
+fn failure(f: usize, m: u16) -> Failure {
+    if f == 0 {
+        return Failure::Nothing;
     }
+    let links = m as usize;
+    if f <= links {
+        return Failure::Link((f - 1) as u16);
+    }
+    Failure::Node(((f - 1 - links) % 256) as u8)
 }
 
-// A run that does not go as 01 says.
-fn wrong(what: &[u8], source: u8, destination: u8) {
-    text(b"WRONG ");
-    text(what);
-    text(b" from ");
-    small(source);
-    text(b" to ");
-    small(destination);
-    text(b"\n");
+// How the run must end under failure f.
+fn expected(f: usize, m: u16, source: u8, destination: u8) -> usize {
+    let first = 1 + m as usize;
+    if f == first + source as usize {
+        return show::REFUSED;
+    }
+    if f == first + destination as usize {
+        return show::DROPPED;
+    }
+    show::DELIVERED
 }
 
-fn larger(a: u8, b: u8) -> u8 {
+fn is_right(e: End, want: usize, n: u8) -> bool {
+    if e.how != want {
+        return false;
+    }
+    if want == show::REFUSED {
+        return e.refusal == 12;
+    }
+    e.hops as usize + 3 <= 2 * (n as usize)
+}
+
+fn wrong(how: usize, source: u8, destination: u8) {
+    show::say(show::WRONG);
+    show::say(how);
+    show::say(show::FROM);
+    show::next(source as u64);
+    show::say(show::TO);
+    show::next(destination as u64);
+}
+
+fn one_if(how: usize, this: usize) -> u64 {
+    if how == this { 1 } else { 0 }
+}
+
+fn larger(a: u64, b: u64) -> u64 {
     if a < b { b } else { a }
 }
 
-fn ended(t: Tally, delivered: u64, dropped: u64, refused: u64, hops: u8) -> Tally {
+fn counted(t: Tally, e: End) -> Tally {
     Tally {
-        delivered: wrapping_add_u64(t.delivered, delivered),
-        dropped: wrapping_add_u64(t.dropped, dropped),
-        refused: wrapping_add_u64(t.refused, refused),
-        longest: larger(t.longest, hops),
+        delivered: wrapping_add_u64(t.delivered, one_if(e.how, show::DELIVERED)),
+        dropped: wrapping_add_u64(t.dropped, one_if(e.how, show::DROPPED)),
+        refused: wrapping_add_u64(t.refused, one_if(e.how, show::REFUSED)),
+        longest: larger(t.longest, e.hops as u64),
     }
 }
 
-// 2n - 3, from the header's n.
-fn most_hops(net: Network) -> u64 {
-    let n = net.n as u64;
-    if n < 2 {
-        return 0;
+fn tried(set: &[u8], net: Network, f: usize, source: u8, destination: u8, t: Tally) -> Tally {
+    let e = run(set, source, destination, failure(f, net.m), 65536, 256, false);
+    let want = expected(f, net.m, source, destination);
+    if is_right(e, want, net.n) {
+        return counted(t, e);
     }
-    2 * n - 3
+    wrong(e.how, source, destination);
+    counted(t, e)
 }
 
-fn is_delivered(j: Journey) -> bool {
-    let o = j.outcome;
-    match o {
-        Outcome::UnderWay => false,
-        Outcome::Delivered => true,
-        Outcome::Dropped => false,
+// Two different nodes of the first n.
+fn are_two(source: u8, destination: u8, n: u8) -> bool {
+    if source >= n {
+        return false;
     }
+    if destination >= n {
+        return false;
+    }
+    source != destination
 }
 
-fn count_end(t: Tally, j: Journey, lost: bool, source: u8, destination: u8) -> Tally {
-    let arrived = is_delivered(j);
-    if arrived {
-        if lost {
-            wrong(b"delivered", source, destination);
-        }
-        return ended(t, 1, 0, 0, j.hops);
+// A number of a run is the failure's, the source's and the destination's: the last two below 32.
+fn numbered(set: &[u8], net: Network, i: usize, t: Tally) -> Tally {
+    let source = (i / 32 % 32) as u8;
+    let destination = (i % 32) as u8;
+    if are_two(source, destination, net.n) {
+        return tried(set, net, i / 1024, source, destination, t);
     }
-    if !lost {
-        wrong(b"not delivered", source, destination);
-    }
-    ended(t, 0, 1, 0, j.hops)
+    t
 }
 
-fn count_refusal(t: Tally, n: u8, from_failed: bool, source: u8, destination: u8) -> Tally {
-    if n != 12 {
-        wrong(b"refused", source, destination);
-    }
-    if !from_failed {
-        wrong(b"refused", source, destination);
-    }
-    ended(t, 0, 0, 1, 0)
-}
-
-fn count(
-    t: Tally,
-    r: RunAnswer,
-    net: Network,
-    failure: Failure,
-    source: u8,
-    destination: u8,
-) -> Tally {
-    match r {
-        RunAnswer::Ended(j) => {
-            if most_hops(net) < j.hops as u64 {
-                wrong(b"too many hops", source, destination);
-            }
-            let lost = is_failed(failure, destination);
-            count_end(t, j, lost, source, destination)
-        }
-        RunAnswer::Refused { number, place: _ } => {
-            let from_failed = is_failed(failure, source);
-            count_refusal(t, number, from_failed, source, destination)
-        }
-    }
-}
-
-fn one(set: &[u8], failure: Failure, source: u8, destination: u8, t: Tally) -> Tally {
-    if source == destination {
-        return t;
-    }
-    let mut tables = room::tables();
-    let mut trail = room::trail();
-    let r = forwarding::run(set, source, destination, failure, &mut tables, &mut trail);
-    count(t, r, file::header(set), failure, source, destination)
-}
-
-fn destinations(set: &[u8], n: u8, failure: Failure, source: u8, t: Tally) -> Tally {
-    let mut sum = t;
-    let mut d: u8 = 0;
-    while d < n {
-        sum = one(set, failure, source, d, sum);
-        d += 1;
-    }
-    sum
-}
-
-fn pairs(set: &[u8], n: u8, failure: Failure, t: Tally) -> Tally {
-    let mut sum = t;
-    let mut s: u8 = 0;
-    while s < n {
-        sum = destinations(set, n, failure, s, sum);
-        s += 1;
-    }
-    sum
-}
-
-fn links(set: &[u8], net: Network, t: Tally) -> Tally {
-    let m = net.m;
-    let mut sum = t;
-    let mut l: u16 = 0;
-    while l < m {
-        sum = pairs(set, net.n, Failure::Link(l), sum);
-        l += 1;
-    }
-    sum
-}
-
-fn nodes(set: &[u8], n: u8, t: Tally) -> Tally {
-    let mut sum = t;
-    let mut v: u8 = 0;
-    while v < n {
-        sum = pairs(set, n, Failure::Node(v), sum);
-        v += 1;
-    }
-    sum
-}
-
-fn show(name: &[u8], t: Tally) {
-    named(name);
-    number(t.delivered);
-    text(b" delivered, ");
-    number(t.dropped);
-    text(b" dropped, ");
-    number(t.refused);
-    text(b" refused, longest ");
-    small(t.longest);
-    text(b" hops\n");
-}
-
-pub fn all(name: &[u8], set: &[u8]) {
-    let net = file::header(set);
-    let none = Tally {
+fn every(set: &[u8], net: Network, count: usize) -> Tally {
+    let mut t = Tally {
         delivered: 0,
         dropped: 0,
         refused: 0,
         longest: 0,
     };
-    let up = pairs(set, net.n, Failure::Nothing, none);
-    let with_links = links(set, net, up);
-    show(name, nodes(set, net.n, with_links));
+    let mut i = 0;
+    while i < count {
+        t = numbered(set, net, i, t);
+        i += 1;
+    }
+    t
+}
+
+fn shown(t: Tally) {
+    show::put(b':');
+    show::next(t.delivered);
+    show::say(show::DELIVERED);
+    show::say(show::COMMA);
+    show::next(t.dropped);
+    show::say(show::DROPPED);
+    show::say(show::COMMA);
+    show::next(t.refused);
+    show::say(show::REFUSED);
+    show::say(show::LONGEST);
+    show::next(t.longest);
+    show::say(show::HOPS);
+    show::end();
+}
+
+pub fn all(set: &[u8]) {
+    let net = header(set);
+    let failures = 1 + net.m as usize + net.n as usize;
+    shown(every(set, net, 1024 * failures));
 }

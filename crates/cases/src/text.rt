@@ -1,5 +1,4 @@
-// The text of a case: its parts, its words and its numbers. Each word has one space before it, so a space too many makes an empty
-// word, which no entry understands.
+// Text by its parts: words, what they are called and what numbers they write. Every part can be asked for: what is not there is empty.
 use crate::file::byte;
 use std::num::wrapping_add_usize;
 ghost use Prim.Native.Nat.{_≤_};
@@ -7,24 +6,25 @@ ghost use Prim.Native.Nat.{_≤_};
 // Stands for what is no number from 0 to 65535.
 pub const NONE: usize = 65536;
 
-// The bytes from start on and before end; none, where the text has no such part.
-pub fn part(text: &[u8], start: usize, end: usize) -> &[u8] {
-    if start <= end {
-        if end <= text.len() {
-            return &text[start..end];
-        }
-    }
-    &text[..0]
+pub fn least(a: usize, b: usize) -> usize
+    ensures { λ r. ⌜ r ≤ b ⌝ }
+{
+    if a < b { a } else { b }
 }
 
-// ---- words
+// The bytes from start on and before end, as far as the text has them.
+pub fn part(text: &[u8], start: usize, end: usize) -> &[u8] {
+    let last = least(end, text.len());
+    let first = least(start, last);
+    &text[first..last]
+}
 
-// Where the space before word i stands, or the text's end where there is no such word.
-pub fn space(text: &[u8], i: usize) -> usize {
+// Where mark number i stands, or the text's end.
+fn place(text: &[u8], mark: u8, i: usize) -> usize {
     let mut left = i;
     let mut at = 0;
     while at < text.len() {
-        if byte(text, at) == b' ' {
+        if byte(text, at) == mark {
             if left == 0 {
                 return at;
             }
@@ -35,73 +35,64 @@ pub fn space(text: &[u8], i: usize) -> usize {
     at
 }
 
-pub fn has_word(text: &[u8], i: usize) -> bool {
-    space(text, i) < text.len()
+// What stands between mark number i and the next.
+pub fn piece(text: &[u8], mark: u8, i: usize) -> &[u8] {
+    let start = wrapping_add_usize(place(text, mark, i), 1);
+    part(text, start, place(text, mark, wrapping_add_usize(i, 1)))
 }
 
+// Each word has one space before it.
 pub fn word(text: &[u8], i: usize) -> &[u8] {
-    let start = wrapping_add_usize(space(text, i), 1);
-    let end = space(text, wrapping_add_usize(i, 1));
-    part(text, start, end)
+    piece(text, b' ', i)
 }
 
-fn same(text: &[u8], other: &[u8]) -> bool {
-    let long = other.len();
-    if text.len() != long {
-        return false;
-    }
+pub fn has_word(text: &[u8], i: usize) -> bool {
+    place(text, b' ', i) < text.len()
+}
+
+// ---- a word of up to eight letters as one number
+
+fn letters(text: &[u8]) -> u64 {
+    let mut sum: u64 = 0;
     let mut i = 0;
-    while i < long {
-        if byte(text, i) != byte(other, i) {
-            return false;
-        }
+    while i < text.len() {
+        sum = (sum << 8) | byte(text, i) as u64;
         i += 1;
     }
-    true
+    sum
 }
 
-// Word i is this one.
-pub fn is(text: &[u8], i: usize, this: &[u8]) -> bool {
-    same(word(text, i), this)
+pub fn name(text: &[u8], i: usize) -> u64 {
+    letters(word(text, i))
 }
 
 // ---- numbers
 
-fn least(a: usize, b: usize) -> usize
-    ensures { λ r. ⌜ r ≤ b ⌝ }
-{
-    if a < b { a } else { b }
-}
-
 // The number that one more digit makes.
 fn more(value: usize, digit: u8) -> usize {
-    if value >= NONE {
+    if value > 6553 {
         return NONE;
     }
-    if digit < b'0' {
-        return NONE;
+    match digit {
+        b'0'..=b'9' => least(10 * value + (digit - b'0') as usize, NONE),
+        _ => NONE,
     }
-    if digit > b'9' {
-        return NONE;
-    }
-    least(10 * value + (digit - b'0') as usize, NONE)
 }
 
-fn value(text: &[u8]) -> usize {
-    let long = text.len();
-    if long == 0 {
+fn digits(text: &[u8]) -> usize {
+    if text.len() == 0 {
         return NONE;
     }
     let mut sum = 0;
     let mut i = 0;
-    while i < long {
+    while i < text.len() {
         sum = more(sum, byte(text, i));
         i += 1;
     }
     sum
 }
 
-// Word i as a decimal number from 0 to 65535, or NONE.
+// The decimal number that word i writes, or NONE.
 pub fn number(text: &[u8], i: usize) -> usize {
-    value(word(text, i))
+    digits(word(text, i))
 }

@@ -1,13 +1,14 @@
 use borrow.Author.Needs.{needs}
 use Prim.Native.Nat.{_-_, _≤_}
+use lib.ListN.{length}
 use Rattle.cases.proofs.each_line.Statement.{statement}
 use Rattle.cases.proofs.each_line.Tie as tie
 
 abbrev Inv-loop : tie.InvT-loop
-Inv-loop list long start₀ i₀ start i = i ≤ long
+Inv-loop list start₀ colon₀ i₀ start colon i = i ≤ length list
 
 abbrev μ-loop : tie.MeasureT-loop
-μ-loop list long start₀ i₀ start i = long - i
+μ-loop list start₀ colon₀ i₀ start colon i = length list - i
 
 loop-holds : tie.Need-loop-holds Inv-loop μ-loop
 loop-holds c = search needs
@@ -15,11 +16,8 @@ loop-holds c = search needs
 byte-requires : tie.Need-byte-requires Inv-loop μ-loop
 byte-requires c κs = search needs
 
-part-requires : tie.Need-part-requires Inv-loop μ-loop
-part-requires c κs = search needs
-
-one-line-requires : tie.Need-one-line-requires Inv-loop μ-loop
-one-line-requires c κs = search needs
+line-requires : tie.Need-line-requires Inv-loop μ-loop
+line-requires c κs = search needs
 
 add-start : tie.Need-add-start Inv-loop μ-loop
 add-start c = search needs
@@ -33,11 +31,8 @@ loop-less c = search needs
 loop-again : tie.Need-loop-again Inv-loop μ-loop
 loop-again c = search needs
 
-part-requires-2 : tie.Need-part-requires-2 Inv-loop μ-loop
-part-requires-2 c κs = search needs
-
-one-line-requires-2 : tie.Need-one-line-requires-2 Inv-loop μ-loop
-one-line-requires-2 c κs = search needs
+line-requires-2 : tie.Need-line-requires-2 Inv-loop μ-loop
+line-requires-2 c κs = search needs
 
 returns : tie.Need-returns Inv-loop μ-loop
 returns c = search needs
@@ -50,12 +45,10 @@ each-line-spec =
     μ-loop
     loop-holds
     byte-requires
-    part-requires
-    one-line-requires
+    line-requires
     add-start
     add-i
     loop-less
     loop-again
-    part-requires-2
-    one-line-requires-2
+    line-requires-2
     returns)

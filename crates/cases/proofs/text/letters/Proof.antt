@@ -1,19 +1,23 @@
 use borrow.Author.Needs.{needs}
 use Prim.Native.Nat.{_-_, _≤_}
-use Rattle.cases.proofs.last_colon.Statement.{statement}
-use Rattle.cases.proofs.last_colon.Tie as tie
+use lib.ListN.{length}
+use Rattle.cases.proofs.text.letters.Statement.{statement}
+use Rattle.cases.proofs.text.letters.Tie as tie
 
 abbrev Inv-loop : tie.InvT-loop
-Inv-loop line long last₀ i₀ last i = i ≤ long
+Inv-loop text sum₀ i₀ sum i = i ≤ length text
 
 abbrev μ-loop : tie.MeasureT-loop
-μ-loop line long last₀ i₀ last i = long - i
+μ-loop text sum₀ i₀ sum i = length text - i
 
 loop-holds : tie.Need-loop-holds Inv-loop μ-loop
 loop-holds c = search needs
 
 byte-requires : tie.Need-byte-requires Inv-loop μ-loop
 byte-requires c κs = search needs
+
+cast-sum : tie.Need-cast-sum Inv-loop μ-loop
+cast-sum c = search needs
 
 add-i : tie.Need-add-i Inv-loop μ-loop
 add-i c = search needs
@@ -27,7 +31,7 @@ loop-again c = search needs
 returns : tie.Need-returns Inv-loop μ-loop
 returns c = search needs
 
-pub last-colon-spec : {M : Type 1} → statement M
-last-colon-spec =
+pub letters-spec : {M : Type 1} → statement M
+letters-spec =
     tie.close
-    (tie.spec Inv-loop μ-loop loop-holds byte-requires add-i loop-less loop-again returns)
+    (tie.spec Inv-loop μ-loop loop-holds byte-requires cast-sum add-i loop-less loop-again returns)

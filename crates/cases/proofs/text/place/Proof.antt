@@ -1,28 +1,29 @@
 use borrow.Author.Needs.{needs}
 use Prim.Native.Nat.{_-_, _≤_}
-use Rattle.cases.proofs.own_words.Statement.{statement}
-use Rattle.cases.proofs.own_words.Tie as tie
+use lib.ListN.{length}
+use Rattle.cases.proofs.text.place.Statement.{statement}
+use Rattle.cases.proofs.text.place.Tie as tie
 
 abbrev Inv-loop : tie.InvT-loop
-Inv-loop words long i₀ i = i ≤ long
+Inv-loop text mark i left₀ at₀ left at = at ≤ length text
 
 abbrev μ-loop : tie.MeasureT-loop
-μ-loop words long i₀ i = long - i
+μ-loop text mark i left₀ at₀ left at = length text - at
 
 loop-holds : tie.Need-loop-holds Inv-loop μ-loop
 loop-holds c = search needs
 
-begins-requires : tie.Need-begins-requires Inv-loop μ-loop
-begins-requires c κs = search needs
-
-space-requires : tie.Need-space-requires Inv-loop μ-loop
-space-requires c κs = search needs
+byte-requires : tie.Need-byte-requires Inv-loop μ-loop
+byte-requires c κs = search needs
 
 returns : tie.Need-returns Inv-loop μ-loop
 returns c = search needs
 
-add-i : tie.Need-add-i Inv-loop μ-loop
-add-i c = search needs
+sub-left : tie.Need-sub-left Inv-loop μ-loop
+sub-left c = search needs
+
+add-at : tie.Need-add-at Inv-loop μ-loop
+add-at c = search needs
 
 loop-less : tie.Need-loop-less Inv-loop μ-loop
 loop-less c = search needs
@@ -33,17 +34,17 @@ loop-again c = search needs
 returns-2 : tie.Need-returns-2 Inv-loop μ-loop
 returns-2 c = search needs
 
-pub own-words-spec : {M : Type 1} → statement M
-own-words-spec =
+pub place-spec : {M : Type 1} → statement M
+place-spec =
     tie.close
     (tie.spec
     Inv-loop
     μ-loop
     loop-holds
-    begins-requires
-    space-requires
+    byte-requires
     returns
-    add-i
+    sub-left
+    add-at
     loop-less
     loop-again
     returns-2)
