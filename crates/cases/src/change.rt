@@ -20,13 +20,6 @@ struct Changed {
     long: usize,
 }
 
-fn lengthened(words: &[u8], c: Changed) -> Changed {
-    Changed {
-        next: wrapping_add_usize(c.next, 2),
-        long: number(words, wrapping_add_usize(c.next, 1)),
-    }
-}
-
 fn put(file: &mut [u8], at: usize, value: usize) -> bool {
     if at < file.len() {
         if value < 256 {
@@ -52,25 +45,27 @@ fn put_byte(words: &[u8], c: Changed, file: &mut [u8]) -> Changed {
 
 fn one(words: &[u8], c: Changed, file: &mut [u8]) -> Changed {
     match name(words, c.next) {
-        LONG => lengthened(words, c),
+        LONG => Changed {
+            next: wrapping_add_usize(c.next, 2),
+            long: (c.long & NONE) | number(words, wrapping_add_usize(c.next, 1)),
+        },
         BYTE => put_byte(words, c, file),
         _ => c,
     }
 }
 
-fn each(words: &[u8], from: usize, file: &mut [u8], long: usize) -> Changed {
+// The file's length after the changes that the words from `from` on ask for; NONE where a word is missing or left.
+pub fn all(words: &[u8], from: usize, file: &mut [u8], long: usize) -> usize {
     let mut c = Changed { next: from, long };
     let mut turn = 0;
     while turn < MOST {
         c = one(words, c, file);
         turn += 1;
     }
-    c
+    whole(words, c)
 }
 
-// The file's length after the changes that the words from `from` on ask for; NONE where a word is missing or left.
-pub fn all(words: &[u8], from: usize, file: &mut [u8], long: usize) -> usize {
-    let c = each(words, from, file, long);
+fn whole(words: &[u8], c: Changed) -> usize {
     if has_word(words, c.next) {
         return NONE;
     }

@@ -10,9 +10,11 @@ use crate::text::least;
 use crate::text::name;
 use crate::text::number;
 use crate::text::part;
-use rules::Failure;
-use rules::LengthAnswer;
+use burnishpeg::burnishpeg_build;
+use burnishpeg::burnishpeg_check;
+use burnishpeg::burnishpeg_read;
 use rules::Network;
+use rules::Verdict;
 use std::num::wrapping_add_usize;
 ghost use Prim.Native.Nat.{_≤_};
 
@@ -36,27 +38,48 @@ const LINK: u64 = 0x6c696e6b;
 
 const NODE: u64 = 0x6e6f6465;
 
+// ---- judge FILE
+
+// The judge is no entry of the library: its answer as the library would pack it.
+fn judge(file: &[u8]) -> u64 {
+    let v = file::judge(file);
+    match v {
+        Verdict::Accepted => 0,
+        Verdict::Refused { number, place } => ((2147483648 | number as u64) << 32) | place as u64,
+    }
+}
+
 // ---- report FILE
 
 // The report has lines of its own, below the name's.
 fn report(file: &[u8]) {
     show::put(b':');
-    show::end();
+    show::put(b'\n');
     printer::show(file);
 }
 
 // ---- read FILE A B WEIGHTS HOMES ROWS
 
-fn up_to_255(words: &[u8], i: usize) -> usize
-    ensures { λ r. ⌜ r ≤ 255 ⌝ }
-{
-    least(number(words, i), 255)
+fn counts(word: u64) {
+    show::next(word & 255);
+    show::next((word >> 8) & 65535);
+    show::next((word >> 24) & 255);
+    show::next((word >> 32) & 65535);
+    show::put(b'\n');
 }
 
-fn up_to_8191(words: &[u8], i: usize) -> usize
-    ensures { λ r. ⌜ r ≤ 8191 ⌝ }
+fn read_answer(word: u64) {
+    show::put(b':');
+    match word >> 63 {
+        0 => counts(word),
+        _ => show::refused(word),
+    }
+}
+
+fn up_to(words: &[u8], i: usize, most: usize) -> usize
+    ensures { λ r. ⌜ r ≤ most ⌝ }
 {
-    least(number(words, i), 8191)
+    least(number(words, i), most)
 }
 
 // Into lists of these lengths, each entry 7.
@@ -66,12 +89,12 @@ fn read_lists(words: &[u8], file: &[u8]) {
     let mut w = room::wide();
     let mut h = room::bytes();
     let mut r = room::wide();
-    let a = up_to_255(words, 2);
-    let b = up_to_255(words, 3);
-    let weights = up_to_8191(words, 4);
-    let homes = up_to_255(words, 5);
-    let rows = up_to_8191(words, 6);
-    show::read(reader::read(
+    let a = up_to(words, 2, 255);
+    let b = up_to(words, 3, 255);
+    let weights = up_to(words, 4, 8191);
+    let homes = up_to(words, 5, 255);
+    let rows = up_to(words, 6, 8191);
+    read_answer(burnishpeg_read(
         file,
         &mut x[0..a],
         &mut y[0..b],
@@ -88,12 +111,10 @@ fn read_lists(words: &[u8], file: &[u8]) {
 
 // A word that is no number, or asks for more, is not understood. Below a power of two are exactly those numbers whose `|` is.
 fn read(words: &[u8], file: &[u8]) {
-    if (number(words, 2) | number(words, 3) | number(words, 5)) > 255 {
-        show::unclear();
-        return;
-    }
-    if (number(words, 4) | number(words, 6)) > 8191 {
-        show::unclear();
+    let bytes = number(words, 2) | number(words, 3) | number(words, 5);
+    let wide = number(words, 4) | number(words, 6);
+    if ((bytes << 5) | wide) > 8191 {
+        show::say(show::UNCLEAR);
         return;
     }
     read_lists(words, file);
@@ -105,14 +126,8 @@ fn rows(set: &[u8], net: Network) {
     let k = net.k;
     let mut j: u8 = 0;
     while j < k {
-        show::numbers(
-            show::ROW,
-            set,
-            file::row_place(net, j as usize) + 3,
-            2,
-            2,
-            net.m as usize,
-        );
+        let first = file::row_place(net, j as usize) + 3;
+        show::numbers(show::ROW, set, first, 2, 2, net.m as usize);
         j += 1;
     }
 }
@@ -120,99 +135,90 @@ fn rows(set: &[u8], net: Network) {
 // The set at the front of a lent file: its homes and rows, the check of it, and the byte that follows.
 fn built(file: &[u8], long: usize) {
     let net = file::header(file);
-    show::numbers(
-        show::HOMES,
-        file,
-        file::home_place(net, 0) + 3,
-        4,
-        1,
-        net.n as usize,
-    );
+    let first = file::home_place(net, 0) + 3;
+    show::next(long as u64);
+    show::say(show::BYTES);
+    show::numbers(show::HOMES, file, first, 4, 1, net.n as usize);
     rows(file, net);
     show::say(show::ITS_CHECK);
-    show::verdict(checker::check(part(file, 0, long)));
+    show::verdict(burnishpeg_check(part(file, 0, long)));
     show::numbers(show::BYTE_AFTER, file, long, 1, 1, 1);
 }
 
-fn build_into(graph: &[u8], cap: u8, file: &mut [u8]) {
-    let r = builder::build(graph, cap, file);
-    show::length(r);
-    match r {
-        LengthAnswer::Length(long) => built(file, long),
-        LengthAnswer::Refused {
-            number: _,
-            place: _,
-        } => show::numbers(show::FIRST_BYTE, file, 0, 1, 1, 1),
+fn build_answer(word: u64, room: &[u8; 65536], long: usize) {
+    let lent = part(room, 0, long);
+    show::put(b':');
+    match word >> 63 {
+        0 => built(lent, word as usize),
+        _ => {
+            show::refused(word);
+            show::numbers(show::FIRST_BYTE, lent, 0, 1, 1, 1);
+        }
     }
 }
 
 fn build(words: &[u8], graph: &[u8]) {
-    let cap = number(words, 2);
-    let long = number(words, 3);
-    if (cap | long) >= NONE {
-        show::unclear();
+    if (number(words, 2) | number(words, 3)) >= NONE {
+        show::say(show::UNCLEAR);
         return;
     }
+    let cap = up_to(words, 2, 255) as u8;
+    let long = up_to(words, 3, 65536);
     let mut file = room::large();
-    let most = least(long, 65536);
-    build_into(graph, least(cap, 255) as u8, &mut file[0..most]);
+    let word = burnishpeg_build(graph, cap, &mut file[0..long]);
+    build_answer(word, &file, long);
 }
 
 // ---- run FILE SOURCE DESTINATION FAILURE, and then TABLES TRAIL where the rooms are to be short
 
-// The failed link or node by its number, and 0 where nothing fails.
-fn failed(words: &[u8]) -> usize {
+// The failure as the library counts: nothing, a link, a node; 3 is none of them.
+fn kind(words: &[u8]) -> u8 {
     match name(words, 4) {
         NOTHING => 0,
-        LINK => number(words, 5),
-        NODE => number(words, 5),
-        _ => NONE,
+        LINK => 1,
+        NODE => 2,
+        _ => 3,
     }
 }
 
-fn failure(words: &[u8]) -> Failure {
-    let l = least(number(words, 5), 65535);
-    let v = least(number(words, 5), 255);
-    match name(words, 4) {
-        LINK => Failure::Link(l as u16),
-        NODE => Failure::Node(v as u8),
-        _ => Failure::Nothing,
+// The failed link or node by its number.
+fn failed(words: &[u8], kind: u8) -> usize {
+    match kind {
+        0 => 0,
+        3 => NONE,
+        _ => number(words, 5),
     }
 }
 
 // The word after the failure.
-fn after_failure(words: &[u8]) -> usize {
-    match name(words, 4) {
-        NOTHING => 5,
+fn after(kind: u8) -> usize {
+    match kind {
+        0 => 5,
         _ => 6,
     }
 }
 
 fn run_words(words: &[u8]) -> usize {
-    let next = after_failure(words);
-    if number(words, next) < NONE {
-        return wrapping_add_usize(next, 2);
+    let next = after(kind(words));
+    match number(words, next) {
+        0..=65535 => wrapping_add_usize(next, 2),
+        _ => next,
     }
-    next
 }
 
 fn run_case(words: &[u8], set: &[u8]) {
-    let source = number(words, 2);
-    let destination = number(words, 3);
-    if (source | destination | failed(words)) >= NONE {
-        show::unclear();
+    let down = kind(words);
+    let which = failed(words, down);
+    if (number(words, 2) | number(words, 3) | which) >= NONE {
+        show::say(show::UNCLEAR);
         return;
     }
-    let next = after_failure(words);
-    run(
-        set,
-        least(source, 255) as u8,
-        least(destination, 255) as u8,
-        failure(words),
-        number(words, next),
-        number(words, wrapping_add_usize(next, 1)),
-        true,
-    );
+    let source = up_to(words, 2, 255) as u8;
+    let destination = up_to(words, 3, 255) as u8;
+    let next = after(down);
+    let tables = number(words, next);
+    let trail = number(words, wrapping_add_usize(next, 1));
+    run(set, source, destination, down, least(which, 65535) as u16, tables, trail, true);
 }
 
 // ---- all of them
@@ -230,13 +236,13 @@ pub fn own_words(words: &[u8]) -> usize {
 
 pub fn answer(words: &[u8], file: &[u8]) {
     match name(words, 0) {
-        JUDGE => show::verdict(file::judge(file)),
-        CHECK => show::verdict(checker::check(file)),
+        JUDGE => show::verdict(judge(file)),
+        CHECK => show::verdict(burnishpeg_check(file)),
         SWEEP => sweep::all(file),
         REPORT => report(file),
         READ => read(words, file),
         BUILD => build(words, file),
         RUN => run_case(words, file),
-        _ => show::unclear(),
+        _ => show::say(show::UNCLEAR),
     }
 }

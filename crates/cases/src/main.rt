@@ -12,7 +12,7 @@ use console::file_room;
 use file::byte;
 use text::NONE;
 use text::part;
-use text::word;
+use text::piece;
 
 // ---- one case
 
@@ -27,23 +27,19 @@ fn stored(name: &[u8], room: &mut [u8]) -> usize {
     long
 }
 
-fn answered(words: &[u8], file: &[u8], long: usize) {
-    if long > file.len() {
-        show::unclear();
+fn answered(words: &[u8], file: &[u8; 9193], long: usize) {
+    if long > 9193 {
+        show::say(show::UNCLEAR);
         return;
     }
-    entry::answer(words, &file[0..long]);
-}
-
-fn changed(words: &[u8], file: &mut [u8]) {
-    let long = stored(word(words, 1), file);
-    let size = change::all(words, entry::own_words(words), file, long);
-    answered(words, file, size);
+    entry::answer(words, part(file, 0, long));
 }
 
 fn case(words: &[u8]) {
     let mut file = file_room();
-    changed(words, &mut file);
+    let long = stored(piece(words, b' ', 1), &mut file);
+    let size = change::all(words, entry::own_words(words), &mut file, long);
+    answered(words, &file, size);
 }
 
 // ---- the list

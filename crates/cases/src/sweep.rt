@@ -1,11 +1,9 @@
 // Every single failure of a set, with every source and every other destination. Each run must be delivered in at most 2n - 3 hops;
 // dropped where its destination is the failed node; refused by 12 where its source is.
 use crate::file::header;
-use crate::run::End;
 use crate::run::run;
 use crate::show;
-use rules::Failure;
-use rules::Network;
+use crate::text::least;
 use std::num::wrapping_add_u64;
 
 // How many runs ended in which way, and the most hops of any.
@@ -16,74 +14,68 @@ struct Tally {
     longest: u64,
 }
 
-// Failure 0 is nothing; then come the links, and then the nodes.
-fn failure(f: usize, m: u16) -> Failure {
-    if f == 0 {
-        return Failure::Nothing;
+const DELIVERED: u64 = 1;
+
+const DROPPED: u64 = 2;
+
+// Refusal 12, from bit 32 on.
+const REFUSED: u64 = 2147483660;
+
+// How a run ended: its answer's last 8 bits, or the refusal.
+fn how(word: u64) -> u64 {
+    match word >> 63 {
+        0 => word & 255,
+        _ => word >> 32,
     }
-    let links = m as usize;
-    if f <= links {
-        return Failure::Link((f - 1) as u16);
-    }
-    Failure::Node(((f - 1 - links) % 256) as u8)
 }
 
-// How the run must end under failure f.
-fn expected(f: usize, m: u16, source: u8, destination: u8) -> usize {
-    let first = 1 + m as usize;
-    if f == first + source as usize {
-        return show::REFUSED;
+// How it must end under this failure: 0 nothing, 1 a link, 2 a node.
+fn expected(kind: u8, failed: u16, source: u8, destination: u8) -> u64 {
+    if kind < 2 {
+        return DELIVERED;
     }
-    if f == first + destination as usize {
-        return show::DROPPED;
+    if failed == source as u16 {
+        return REFUSED;
     }
-    show::DELIVERED
-}
-
-fn is_right(e: End, want: usize, n: u8) -> bool {
-    if e.how != want {
-        return false;
+    if failed == destination as u16 {
+        return DROPPED;
     }
-    if want == show::REFUSED {
-        return e.refusal == 12;
-    }
-    e.hops as usize + 3 <= 2 * (n as usize)
-}
-
-fn wrong(how: usize, source: u8, destination: u8) {
-    show::say(show::WRONG);
-    show::say(how);
-    show::say(show::FROM);
-    show::next(source as u64);
-    show::say(show::TO);
-    show::next(destination as u64);
-}
-
-fn one_if(how: usize, this: usize) -> u64 {
-    if how == this { 1 } else { 0 }
+    DELIVERED
 }
 
 fn larger(a: u64, b: u64) -> u64 {
     if a < b { b } else { a }
 }
 
-fn counted(t: Tally, e: End) -> Tally {
+fn counted(t: Tally, how: u64, hops: u64) -> Tally {
     Tally {
-        delivered: wrapping_add_u64(t.delivered, one_if(e.how, show::DELIVERED)),
-        dropped: wrapping_add_u64(t.dropped, one_if(e.how, show::DROPPED)),
-        refused: wrapping_add_u64(t.refused, one_if(e.how, show::REFUSED)),
-        longest: larger(t.longest, e.hops as u64),
+        delivered: wrapping_add_u64(t.delivered, (how == DELIVERED) as u64),
+        dropped: wrapping_add_u64(t.dropped, (how == DROPPED) as u64),
+        refused: wrapping_add_u64(t.refused, (how == REFUSED) as u64),
+        longest: larger(t.longest, hops),
     }
 }
 
-fn tried(set: &[u8], net: Network, f: usize, source: u8, destination: u8, t: Tally) -> Tally {
-    let e = run(set, source, destination, failure(f, net.m), 65536, 256, false);
-    let want = expected(f, net.m, source, destination);
-    if is_right(e, want, net.n) {
-        return counted(t, e);
+fn wrong(source: u8, destination: u8) {
+    show::say(show::WRONG);
+    show::next(source as u64);
+    show::say(show::TO);
+    show::next(destination as u64);
+}
+
+// 2n - 3, or 0.
+fn most_hops(n: u8) -> u64 {
+    let twice = 2 * (n as u64);
+    if twice < 3 { 0 } else { twice - 3 }
+}
+
+fn look(word: u64, want: u64, n: u8, source: u8, destination: u8) {
+    if how(word) == want {
+        if ((word >> 8) & 255) <= most_hops(n) {
+            return;
+        }
     }
-    wrong(e.how, source, destination);
-    counted(t, e)
+    wrong(source, destination);
 }
 
 // Two different nodes of the first n.
@@ -97,26 +89,25 @@ fn are_two(source: u8, destination: u8, n: u8) -> bool {
     source != destination
 }
 
-// A number of a run is the failure's, the source's and the destination's: the last two below 32.
-fn numbered(set: &[u8], net: Network, i: usize, t: Tally) -> Tally {
-    let source = (i / 32 % 32) as u8;
+// Run number i: the failed link's or node's number, then 5 bits for the source and 5 for the destination.
+fn tried(set: &[u8], n: u8, kind: u8, i: usize, t: Tally) -> Tally {
+    let failed = ((i >> 10) % 65536) as u16;
+    let source = ((i >> 5) % 32) as u8;
     let destination = (i % 32) as u8;
-    if are_two(source, destination, net.n) {
-        return tried(set, net, i / 1024, source, destination, t);
+    if are_two(source, destination, n) {
+        let word = run(set, source, destination, kind, failed, 65536, 256, false);
+        look(word, expected(kind, failed, source, destination), n, source, destination);
+        return counted(t, how(word), (word >> 8) & 255);
     }
     t
 }
 
-fn every(set: &[u8], net: Network, count: usize) -> Tally {
-    let mut t = Tally {
-        delivered: 0,
-        dropped: 0,
-        refused: 0,
-        longest: 0,
-    };
+fn every(set: &[u8], n: u8, kind: u8, count: usize, before: Tally) -> Tally {
+    let most = 1024 * least(count, 65535);
+    let mut t = before;
     let mut i = 0;
-    while i < count {
-        t = numbered(set, net, i, t);
+    while i < most {
+        t = tried(set, n, kind, i, t);
         i += 1;
     }
     t
@@ -126,20 +117,28 @@ fn shown(t: Tally) {
     show::put(b':');
     show::next(t.delivered);
     show::say(show::DELIVERED);
-    show::say(show::COMMA);
+    show::put(b',');
     show::next(t.dropped);
     show::say(show::DROPPED);
-    show::say(show::COMMA);
+    show::put(b',');
     show::next(t.refused);
     show::say(show::REFUSED);
     show::say(show::LONGEST);
     show::next(t.longest);
     show::say(show::HOPS);
-    show::end();
+    show::put(b'\n');
 }
 
 pub fn all(set: &[u8]) {
     let net = header(set);
-    let failures = 1 + net.m as usize + net.n as usize;
-    shown(every(set, net, 1024 * failures));
+    let n = net.n;
+    let none = Tally {
+        delivered: 0,
+        dropped: 0,
+        refused: 0,
+        longest: 0,
+    };
+    let up = every(set, n, 0, 1, none);
+    let links = every(set, n, 1, net.m as usize, up);
+    shown(every(set, n, 2, n as usize, links));
 }

@@ -3,7 +3,7 @@ use crate::file::byte;
 use std::num::wrapping_add_usize;
 ghost use Prim.Native.Nat.{_≤_};
 
-// Stands for what is no number from 0 to 65535.
+// From here on no number stands for a number that was written.
 pub const NONE: usize = 65536;
 
 pub fn least(a: usize, b: usize) -> usize
@@ -41,16 +41,11 @@ pub fn piece(text: &[u8], mark: u8, i: usize) -> &[u8] {
     part(text, start, place(text, mark, wrapping_add_usize(i, 1)))
 }
 
-// Each word has one space before it.
-pub fn word(text: &[u8], i: usize) -> &[u8] {
-    piece(text, b' ', i)
-}
+// ---- words: each has one space before it
 
 pub fn has_word(text: &[u8], i: usize) -> bool {
     place(text, b' ', i) < text.len()
 }
-
-// ---- a word of up to eight letters as one number
 
 fn letters(text: &[u8]) -> u64 {
     let mut sum: u64 = 0;
@@ -62,37 +57,33 @@ fn letters(text: &[u8]) -> u64 {
     sum
 }
 
+// The letters of word i, up to eight, as one number: 8 bits each.
 pub fn name(text: &[u8], i: usize) -> u64 {
-    letters(word(text, i))
+    letters(piece(text, b' ', i))
 }
 
 // ---- numbers
 
 // The number that one more digit makes.
-fn more(value: usize, digit: u8) -> usize {
-    if value > 6553 {
-        return NONE;
-    }
-    match digit {
-        b'0'..=b'9' => least(10 * value + (digit - b'0') as usize, NONE),
+fn digit(value: usize, letter: u64) -> usize {
+    match letter {
+        48..=57 => 10 * least(value, NONE) + (letter - 48) as usize,
         _ => NONE,
     }
 }
 
-fn digits(text: &[u8]) -> usize {
-    if text.len() == 0 {
-        return NONE;
+// The same, where there may be no such letter.
+fn lead(value: usize, letter: u64) -> usize {
+    match letter {
+        0 => value,
+        _ => digit(value, letter),
     }
-    let mut sum = 0;
-    let mut i = 0;
-    while i < text.len() {
-        sum = more(sum, byte(text, i));
-        i += 1;
-    }
-    sum
 }
 
-// The decimal number that word i writes, or NONE.
+// The decimal number of up to five digits that word i writes, if it is below NONE.
 pub fn number(text: &[u8], i: usize) -> usize {
-    digits(word(text, i))
+    let w = name(text, i);
+    let thousands = lead(lead(0, w >> 32), (w >> 24) & 255);
+    let tens = lead(lead(thousands, (w >> 16) & 255), (w >> 8) & 255);
+    digit(tens, w & 255)
 }

@@ -18,8 +18,8 @@ cast-row-place c = search needs
 row-place-requires : tie.Need-row-place-requires Inv-loop μ-loop
 row-place-requires c κs = search needs
 
-add-numbers : tie.Need-add-numbers Inv-loop μ-loop
-add-numbers c = search needs
+add-first : tie.Need-add-first Inv-loop μ-loop
+add-first c = search needs
 
 cast-numbers : tie.Need-cast-numbers Inv-loop μ-loop
 cast-numbers c = search needs
@@ -48,7 +48,7 @@ rows-spec =
     loop-holds
     cast-row-place
     row-place-requires
-    add-numbers
+    add-first
     cast-numbers
     numbers-requires
     add-j

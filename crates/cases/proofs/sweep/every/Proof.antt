@@ -4,16 +4,22 @@ use Rattle.cases.proofs.sweep.every.Statement.{statement}
 use Rattle.cases.proofs.sweep.every.Tie as tie
 
 abbrev Inv-loop : tie.InvT-loop
-Inv-loop set net count t₀ i₀ t i = i ≤ count
+Inv-loop set n kind count most t₀ i₀ t i = i ≤ most
 
 abbrev μ-loop : tie.MeasureT-loop
-μ-loop set net count t₀ i₀ t i = count - i
+μ-loop set n kind count most t₀ i₀ t i = most - i
+
+least-requires : tie.Need-least-requires Inv-loop μ-loop
+least-requires c κs = search needs
+
+mul-most : tie.Need-mul-most Inv-loop μ-loop
+mul-most c = search needs
 
 loop-holds : tie.Need-loop-holds Inv-loop μ-loop
 loop-holds c = search needs
 
-numbered-requires : tie.Need-numbered-requires Inv-loop μ-loop
-numbered-requires c κs = search needs
+tried-requires : tie.Need-tried-requires Inv-loop μ-loop
+tried-requires c κs = search needs
 
 add-i : tie.Need-add-i Inv-loop μ-loop
 add-i c = search needs
@@ -30,4 +36,14 @@ returns c = search needs
 pub every-spec : {M : Type 1} → statement M
 every-spec =
     tie.close
-    (tie.spec Inv-loop μ-loop loop-holds numbered-requires add-i loop-less loop-again returns)
+    (tie.spec
+    Inv-loop
+    μ-loop
+    least-requires
+    mul-most
+    loop-holds
+    tried-requires
+    add-i
+    loop-less
+    loop-again
+    returns)

@@ -2,8 +2,8 @@ use borrow.Author.Needs.{needs}
 use Prim.Native.Nat.{_-_, _≤_}
 use lib.ListN.{length}
 use mathlib.Core.Path.{_≡_}
-use Rattle.cases.proofs.change.each.Statement.{statement}
-use Rattle.cases.proofs.change.each.Tie as tie
+use Rattle.cases.proofs.change.all.Statement.{statement}
+use Rattle.cases.proofs.change.all.Tie as tie
 
 abbrev Inv-loop : tie.InvT-loop
 Inv-loop words from file₀ long c₀ turn₀ file c turn = (turn ≤ 40) × (length file ≡ length file₀)
@@ -26,14 +26,17 @@ loop-less c = search needs
 loop-again : tie.Need-loop-again Inv-loop μ-loop
 loop-again c = search needs
 
+whole-requires : tie.Need-whole-requires Inv-loop μ-loop
+whole-requires c κs = search needs
+
 same-length : tie.Need-same-length Inv-loop μ-loop
 same-length c = search needs
 
 returns : tie.Need-returns Inv-loop μ-loop
 returns c = search needs
 
-pub each-spec : {M : Type 1} → statement M
-each-spec =
+pub all-spec : {M : Type 1} → statement M
+all-spec =
     tie.close
     (tie.spec
     Inv-loop
@@ -43,5 +46,6 @@ each-spec =
     add-turn
     loop-less
     loop-again
+    whole-requires
     same-length
     returns)
