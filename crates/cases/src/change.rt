@@ -5,7 +5,6 @@ use crate::text::has_word;
 use crate::text::name;
 use crate::text::number;
 use std::num::wrapping_add_usize;
-use std::num::wrapping_sub_usize;
 
 const LONG: u64 = 0x6c6f6e67;
 
@@ -66,11 +65,5 @@ pub fn all(words: &[u8], from: usize, file: &mut [u8], long: usize) -> usize {
 }
 
 fn whole(words: &[u8], c: Changed) -> usize {
-    if has_word(words, c.next) {
-        return NONE;
-    }
-    if has_word(words, wrapping_sub_usize(c.next, 1)) {
-        return c.long;
-    }
-    NONE
+    if has_word(words, c.next) { NONE } else { c.long }
 }

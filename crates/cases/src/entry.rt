@@ -83,7 +83,7 @@ fn up_to(words: &[u8], i: usize, most: usize) -> usize
 }
 
 // Into lists of these lengths, each entry 7.
-fn read_lists(words: &[u8], file: &[u8]) {
+fn read(words: &[u8], file: &[u8]) {
     let mut x = room::bytes();
     let mut y = room::bytes();
     let mut w = room::wide();
@@ -109,25 +109,14 @@ fn read_lists(words: &[u8], file: &[u8]) {
     show::wide_list(show::ROWS, &r, rows);
 }
 
-// A word that is no number, or asks for more, is not understood. Below a power of two are exactly those numbers whose `|` is.
-fn read(words: &[u8], file: &[u8]) {
-    let bytes = number(words, 2) | number(words, 3) | number(words, 5);
-    let wide = number(words, 4) | number(words, 6);
-    if ((bytes << 5) | wide) > 8191 {
-        show::say(show::UNCLEAR);
-        return;
-    }
-    read_lists(words, file);
-}
-
 // ---- build FILE CAP ROOM
 
 fn rows(set: &[u8], net: Network) {
     let k = net.k;
     let mut j: u8 = 0;
     while j < k {
-        let first = file::row_place(net, j as usize) + 3;
-        show::numbers(show::ROW, set, first, 2, 2, net.m as usize);
+        let first = file::row_place(net, j as usize) + 4;
+        show::numbers(show::ROW, set, first, 2, 65535, net.m as usize);
         j += 1;
     }
 }
@@ -138,33 +127,29 @@ fn built(file: &[u8], long: usize) {
     let first = file::home_place(net, 0) + 3;
     show::next(long as u64);
     show::say(show::BYTES);
-    show::numbers(show::HOMES, file, first, 4, 1, net.n as usize);
+    show::numbers(show::HOMES, file, first, 4, 255, net.n as usize);
     rows(file, net);
     show::say(show::ITS_CHECK);
     show::verdict(burnishpeg_check(part(file, 0, long)));
-    show::numbers(show::BYTE_AFTER, file, long, 1, 1, 1);
+    show::numbers(show::BYTE_AFTER, file, long, 1, 255, 1);
 }
 
-fn build_answer(word: u64, room: &[u8; 65536], long: usize) {
+fn build_answer(word: u64, room: &[u8; 16384], long: usize) {
     let lent = part(room, 0, long);
     show::put(b':');
     match word >> 63 {
         0 => built(lent, word as usize),
         _ => {
             show::refused(word);
-            show::numbers(show::FIRST_BYTE, lent, 0, 1, 1, 1);
+            show::numbers(show::FIRST_BYTE, lent, 0, 1, 255, 1);
         }
     }
 }
 
 fn build(words: &[u8], graph: &[u8]) {
-    if (number(words, 2) | number(words, 3)) >= NONE {
-        show::say(show::UNCLEAR);
-        return;
-    }
     let cap = up_to(words, 2, 255) as u8;
-    let long = up_to(words, 3, 65536);
-    let mut file = room::large();
+    let long = up_to(words, 3, 16384);
+    let mut file = room::set();
     let word = burnishpeg_build(graph, cap, &mut file[0..long]);
     build_answer(word, &file, long);
 }
@@ -208,17 +193,13 @@ fn run_words(words: &[u8]) -> usize {
 
 fn run_case(words: &[u8], set: &[u8]) {
     let down = kind(words);
-    let which = failed(words, down);
-    if (number(words, 2) | number(words, 3) | which) >= NONE {
-        show::say(show::UNCLEAR);
-        return;
-    }
+    let which = least(failed(words, down), 65535) as u16;
     let source = up_to(words, 2, 255) as u8;
     let destination = up_to(words, 3, 255) as u8;
     let next = after(down);
     let tables = number(words, next);
     let trail = number(words, wrapping_add_usize(next, 1));
-    run(set, source, destination, down, least(which, 65535) as u16, tables, trail, true);
+    run(set, source, destination, down, which, tables, trail, true);
 }
 
 // ---- all of them
@@ -234,8 +215,26 @@ pub fn own_words(words: &[u8]) -> usize {
     }
 }
 
-pub fn answer(words: &[u8], file: &[u8]) {
+// Below NONE where every number that the entry takes is one and is in its range: a range of up to 255 is shifted by 8, and so on.
+fn ranges(words: &[u8]) -> usize {
     match name(words, 0) {
+        BUILD => (number(words, 2) << 8) | (number(words, 3) << 2),
+        READ => {
+            let bytes = number(words, 2) | number(words, 3) | number(words, 5);
+            (bytes << 8) | ((number(words, 4) | number(words, 6)) << 3)
+        }
+        RUN => ((number(words, 2) | number(words, 3)) << 8) | failed(words, kind(words)),
+        _ => 0,
+    }
+}
+
+// Word 0, or none where the case is not understood.
+fn asked(words: &[u8], long: usize) -> u64 {
+    if (ranges(words) | long) < NONE { name(words, 0) } else { 0 }
+}
+
+pub fn answer(words: &[u8], file: &[u8], long: usize) {
+    match asked(words, long) {
         JUDGE => show::verdict(judge(file)),
         CHECK => show::verdict(burnishpeg_check(file)),
         SWEEP => sweep::all(file),

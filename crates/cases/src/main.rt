@@ -27,19 +27,11 @@ fn stored(name: &[u8], room: &mut [u8]) -> usize {
     long
 }
 
-fn answered(words: &[u8], file: &[u8; 9193], long: usize) {
-    if long > 9193 {
-        show::say(show::UNCLEAR);
-        return;
-    }
-    entry::answer(words, part(file, 0, long));
-}
-
 fn case(words: &[u8]) {
     let mut file = file_room();
     let long = stored(piece(words, b' ', 1), &mut file);
     let size = change::all(words, entry::own_words(words), &mut file, long);
-    answered(words, &file, size);
+    entry::answer(words, part(&file, 0, size), size);
 }
 
 // ---- the list

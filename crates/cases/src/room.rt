@@ -16,9 +16,9 @@ pub fn wide() -> [u16; 8192]
     [7; 8192]
 }
 
-// For a set or its tables.
-pub fn large() -> [u8; 65536]
-    ensures { λ r. ⌜ 65536 ≡ length r ⌝ }
+// For a set.
+pub fn set() -> [u8; 16384]
+    ensures { λ r. ⌜ 16384 ≡ length r ⌝ }
 {
-    [238; 65536]
+    [238; 16384]
 }

@@ -7,14 +7,15 @@ use burnishpeg::burnishpeg_run;
 
 // The nodes visited are one more than the hops.
 fn journey(word: u64, trail: &[u8; 256]) {
+    let hops = (word >> 8) % 256;
     show::say((word % 256) as usize);
     show::say(show::HOPS);
-    show::next((word >> 8) & 255);
+    show::next(hops);
     show::say(show::TOPOLOGY);
     show::next((word >> 16) & 255);
     show::say(show::KIND);
     show::put(((word >> 24) % 256) as u8);
-    show::list(show::TRAIL, trail, 1 + ((word >> 8) % 256) as usize);
+    show::list(show::TRAIL, trail, 1 + hops as usize);
 }
 
 fn ended(word: u64, trail: &[u8; 256]) {
@@ -38,7 +39,7 @@ pub fn run(
     trail: usize,
     shown: bool,
 ) -> u64 {
-    let mut a = room::large();
+    let mut a = io::large_buffer();
     let mut b = room::bytes();
     let x = least(tables, 65536);
     let y = least(trail, 256);

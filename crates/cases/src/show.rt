@@ -5,6 +5,7 @@ use crate::text::least;
 use crate::text::piece;
 use libc::STDOUT_FILENO;
 use std::num::wrapping_add_usize;
+use std::num::wrapping_sub_usize;
 
 pub fn text(s: &[u8]) {
     io::write_all(STDOUT_FILENO, s);
@@ -96,20 +97,18 @@ pub fn verdict(word: u64) {
 
 // ---- lists
 
-fn number_at(file: &[u8], at: usize, width: usize) {
-    match width {
-        1 => next(byte(file, at) as u64),
-        _ => next(256 * (byte(file, at) as u64) + byte(file, wrapping_add_usize(at, 1)) as u64),
-    }
+fn two(file: &[u8], at: usize) -> u64 {
+    256 * (byte(file, wrapping_sub_usize(at, 1)) as u64) + byte(file, at) as u64
 }
 
-// So many numbers of one or two bytes, the first at `from`, and each so many bytes after the one before.
-pub fn numbers(title: usize, file: &[u8], from: usize, step: usize, width: usize, count: usize) {
+// So many numbers of two bytes, as far as the mask lets them through: the first with its low byte at `from`, and each so many bytes
+// after the one before.
+pub fn numbers(title: usize, file: &[u8], from: usize, step: usize, mask: u64, count: usize) {
     say(title);
     let mut at = from;
     let mut i = 0;
     while i < count {
-        number_at(file, at, width);
+        next(two(file, at) & mask);
         at = wrapping_add_usize(at, step);
         i += 1;
     }
@@ -117,7 +116,7 @@ pub fn numbers(title: usize, file: &[u8], from: usize, step: usize, width: usize
 }
 
 pub fn list(title: usize, list: &[u8; 256], count: usize) {
-    numbers(title, list, 0, 1, 1, count);
+    numbers(title, list, 0, 1, 255, count);
 }
 
 fn next_wide(x: u16) {

@@ -3,7 +3,7 @@ use crate::file::byte;
 use std::num::wrapping_add_usize;
 ghost use Prim.Native.Nat.{_≤_};
 
-// From here on no number stands for a number that was written.
+// Stands for what is no number from 0 to 65535.
 pub const NONE: usize = 65536;
 
 pub fn least(a: usize, b: usize) -> usize
@@ -67,7 +67,7 @@ pub fn name(text: &[u8], i: usize) -> u64 {
 // The number that one more digit makes.
 fn digit(value: usize, letter: u64) -> usize {
     match letter {
-        48..=57 => 10 * least(value, NONE) + (letter - 48) as usize,
+        48..=57 => least(10 * least(value, NONE) + (letter - 48) as usize, NONE),
         _ => NONE,
     }
 }
@@ -80,7 +80,7 @@ fn lead(value: usize, letter: u64) -> usize {
     }
 }
 
-// The decimal number of up to five digits that word i writes, if it is below NONE.
+// The decimal number of up to five digits that word i writes, or NONE.
 pub fn number(text: &[u8], i: usize) -> usize {
     let w = name(text, i);
     let thousands = lead(lead(0, w >> 32), (w >> 24) & 255);

@@ -4,10 +4,10 @@ use Rattle.cases.proofs.show.numbers.Statement.{statement}
 use Rattle.cases.proofs.show.numbers.Tie as tie
 
 abbrev Inv-loop : tie.InvT-loop
-Inv-loop title file from step width count at₀ i₀ at i = i ≤ count
+Inv-loop title file from step mask count at₀ i₀ at i = i ≤ count
 
 abbrev μ-loop : tie.MeasureT-loop
-μ-loop title file from step width count at₀ i₀ at i = count - i
+μ-loop title file from step mask count at₀ i₀ at i = count - i
 
 say-requires : tie.Need-say-requires Inv-loop μ-loop
 say-requires c κs = search needs
@@ -15,8 +15,11 @@ say-requires c κs = search needs
 loop-holds : tie.Need-loop-holds Inv-loop μ-loop
 loop-holds c = search needs
 
-number-at-requires : tie.Need-number-at-requires Inv-loop μ-loop
-number-at-requires c κs = search needs
+two-requires : tie.Need-two-requires Inv-loop μ-loop
+two-requires c κs = search needs
+
+next-requires : tie.Need-next-requires Inv-loop μ-loop
+next-requires c κs = search needs
 
 wrapping-add-usize-requires : tie.Need-wrapping-add-usize-requires Inv-loop μ-loop
 wrapping-add-usize-requires c κs = search needs
@@ -44,7 +47,8 @@ numbers-spec =
     μ-loop
     say-requires
     loop-holds
-    number-at-requires
+    two-requires
+    next-requires
     wrapping-add-usize-requires
     add-i
     loop-less
