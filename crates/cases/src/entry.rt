@@ -83,17 +83,14 @@ fn up_to(words: &[u8], i: usize, most: usize) -> usize
 }
 
 // Into lists of these lengths, each entry 7.
-fn read(words: &[u8], file: &[u8]) {
+fn read_into(file: &[u8], a: usize, b: usize, weights: usize, homes: usize, rows: usize)
+    requires { ⌜ (a ≤ 255) × ((b ≤ 255) × ((weights ≤ 8191) × ((homes ≤ 255) × (rows ≤ 8191)))) ⌝ }
+{
     let mut x = room::bytes();
     let mut y = room::bytes();
     let mut w = room::wide();
     let mut h = room::bytes();
     let mut r = room::wide();
-    let a = up_to(words, 2, 255);
-    let b = up_to(words, 3, 255);
-    let weights = up_to(words, 4, 8191);
-    let homes = up_to(words, 5, 255);
-    let rows = up_to(words, 6, 8191);
     read_answer(burnishpeg_read(
         file,
         &mut x[0..a],
@@ -107,6 +104,17 @@ fn read(words: &[u8], file: &[u8]) {
     show::wide_list(show::WEIGHTS, &w, weights);
     show::list(show::HOMES, &h, homes);
     show::wide_list(show::ROWS, &r, rows);
+}
+
+fn read(words: &[u8], file: &[u8]) {
+    read_into(
+        file,
+        up_to(words, 2, 255),
+        up_to(words, 3, 255),
+        up_to(words, 4, 8191),
+        up_to(words, 5, 255),
+        up_to(words, 6, 8191),
+    );
 }
 
 // ---- build FILE CAP ROOM
@@ -215,15 +223,16 @@ pub fn own_words(words: &[u8]) -> usize {
     }
 }
 
-// Below NONE where every number that the entry takes is one and is in its range: a range of up to 255 is shifted by 8, and so on.
+fn either(words: &[u8], i: usize, j: usize) -> usize {
+    number(words, i) | number(words, j)
+}
+
+// Below NONE where every number that the entry takes is one and is in its range: numbers up to 255 are shifted by 8, and so on.
 fn ranges(words: &[u8]) -> usize {
     match name(words, 0) {
         BUILD => (number(words, 2) << 8) | (number(words, 3) << 2),
-        READ => {
-            let bytes = number(words, 2) | number(words, 3) | number(words, 5);
-            (bytes << 8) | ((number(words, 4) | number(words, 6)) << 3)
-        }
-        RUN => ((number(words, 2) | number(words, 3)) << 8) | failed(words, kind(words)),
+        READ => ((either(words, 2, 3) | number(words, 5)) << 8) | (either(words, 4, 6) << 3),
+        RUN => (either(words, 2, 3) << 8) | failed(words, kind(words)),
         _ => 0,
     }
 }

@@ -6,13 +6,33 @@ use crate::show;
 use crate::text::least;
 use std::num::wrapping_add_u64;
 
-// How many runs ended in which way, and the most hops of any.
-struct Tally {
-    delivered: u64,
-    dropped: u64,
-    refused: u64,
-    longest: u64,
+// ---- the run with this number: the failed link's or node's number, 5 bits for the source, and 5 for the destination
+
+fn failed(i: usize) -> u16 {
+    ((i >> 10) % 65536) as u16
 }
+
+fn source(i: usize) -> u8 {
+    ((i >> 5) % 32) as u8
+}
+
+fn destination(i: usize) -> u8 {
+    (i % 32) as u8
+}
+
+// Its ends are two different nodes of the first n.
+fn is_run(i: usize, n: u8) -> bool {
+    let s = source(i);
+    let d = destination(i);
+    if s < n {
+        if d < n {
+            return s != d;
+        }
+    }
+    false
+}
+
+// ---- how it ended: its answer's last 8 bits, or the refusal
 
 const DELIVERED: u64 = 1;
 
@@ -21,7 +41,6 @@ const DROPPED: u64 = 2;
 // Refusal 12, from bit 32 on.
 const REFUSED: u64 = 2147483660;
 
-// How a run ended: its answer's last 8 bits, or the refusal.
 fn how(word: u64) -> u64 {
     match word >> 63 {
         0 => word & 255,
@@ -29,116 +48,113 @@ fn how(word: u64) -> u64 {
     }
 }
 
-// How it must end under this failure: 0 nothing, 1 a link, 2 a node.
-fn expected(kind: u8, failed: u16, source: u8, destination: u8) -> u64 {
-    if kind < 2 {
-        return DELIVERED;
-    }
-    if failed == source as u16 {
+// How it must end where a node failed.
+fn with_node(i: usize) -> u64 {
+    if failed(i) == source(i) as u16 {
         return REFUSED;
     }
-    if failed == destination as u16 {
+    if failed(i) == destination(i) as u16 {
         return DROPPED;
     }
     DELIVERED
 }
 
-fn larger(a: u64, b: u64) -> u64 {
-    if a < b { b } else { a }
-}
-
-fn counted(t: Tally, how: u64, hops: u64) -> Tally {
-    Tally {
-        delivered: wrapping_add_u64(t.delivered, (how == DELIVERED) as u64),
-        dropped: wrapping_add_u64(t.dropped, (how == DROPPED) as u64),
-        refused: wrapping_add_u64(t.refused, (how == REFUSED) as u64),
-        longest: larger(t.longest, hops),
+// The failure is nothing, a link or a node.
+fn expected(kind: u8, i: usize) -> u64 {
+    match kind {
+        2 => with_node(i),
+        _ => DELIVERED,
     }
 }
 
-fn wrong(source: u8, destination: u8) {
+fn wrong(i: usize) {
     show::say(show::WRONG);
-    show::next(source as u64);
+    show::next(source(i) as u64);
     show::say(show::TO);
-    show::next(destination as u64);
+    show::next(destination(i) as u64);
 }
 
-// 2n - 3, or 0.
-fn most_hops(n: u8) -> u64 {
-    let twice = 2 * (n as u64);
-    if twice < 3 { 0 } else { twice - 3 }
-}
-
-fn look(word: u64, want: u64, n: u8, source: u8, destination: u8) {
+// hops at most 2n - 3
+fn look(word: u64, want: u64, n: u8, i: usize) {
     if how(word) == want {
-        if ((word >> 8) & 255) <= most_hops(n) {
+        if ((word >> 8) % 256) + 3 <= 2 * (n as u64) {
             return;
         }
     }
-    wrong(source, destination);
+    wrong(i);
 }
 
-// Two different nodes of the first n.
-fn are_two(source: u8, destination: u8, n: u8) -> bool {
-    if source >= n {
-        return false;
+// ---- the tally is one number: 18 bits each for the runs delivered, dropped and refused, and then the most hops
+
+const HOPS: u64 = 18014398509481984;
+
+fn one_more(word: u64) -> u64 {
+    match how(word) {
+        DELIVERED => 1,
+        DROPPED => 262144,
+        REFUSED => 68719476736,
+        _ => 0,
     }
-    if destination >= n {
-        return false;
-    }
-    source != destination
 }
 
-// Run number i: the failed link's or node's number, then 5 bits for the source and 5 for the destination.
-fn tried(set: &[u8], n: u8, kind: u8, i: usize, t: Tally) -> Tally {
-    let failed = ((i >> 10) % 65536) as u16;
-    let source = ((i >> 5) % 32) as u8;
-    let destination = (i % 32) as u8;
-    if are_two(source, destination, n) {
-        let word = run(set, source, destination, kind, failed, 65536, 256, false);
-        look(word, expected(kind, failed, source, destination), n, source, destination);
-        return counted(t, how(word), (word >> 8) & 255);
-    }
-    t
+fn counted(tally: u64, word: u64) -> u64 {
+    let sum = wrapping_add_u64(tally, one_more(word));
+    let hops = (word >> 8) & 255;
+    if sum / HOPS < hops { (hops << 54) | (sum % HOPS) } else { sum }
 }
 
-fn every(set: &[u8], n: u8, kind: u8, count: usize, before: Tally) -> Tally {
-    let most = 1024 * least(count, 65535);
-    let mut t = before;
-    let mut i = 0;
-    while i < most {
-        t = tried(set, n, kind, i, t);
-        i += 1;
-    }
-    t
-}
-
-fn shown(t: Tally) {
+fn shown(tally: u64) {
     show::put(b':');
-    show::next(t.delivered);
+    show::next(tally & 262143);
     show::say(show::DELIVERED);
     show::put(b',');
-    show::next(t.dropped);
+    show::next((tally >> 18) & 262143);
     show::say(show::DROPPED);
     show::put(b',');
-    show::next(t.refused);
+    show::next((tally >> 36) & 262143);
     show::say(show::REFUSED);
     show::say(show::LONGEST);
-    show::next(t.longest);
+    show::next(tally >> 54);
     show::say(show::HOPS);
     show::put(b'\n');
+}
+
+// ---- the runs
+
+fn tried(set: &[u8], n: u8, kind: u8, i: usize, tally: u64) -> u64 {
+    if is_run(i, n) {
+        let word = run(
+            set,
+            source(i),
+            destination(i),
+            kind,
+            failed(i),
+            65536,
+            256,
+            false,
+        );
+        look(word, expected(kind, i), n, i);
+        return counted(tally, word);
+    }
+    tally
+}
+
+// With each of so many links or nodes failed.
+fn every(set: &[u8], n: u8, kind: u8, count: usize, before: u64) -> u64 {
+    let most = 1024 * least(count, 65535);
+    let mut tally = before;
+    let mut i = 0;
+    while i < most {
+        tally = tried(set, n, kind, i, tally);
+        i += 1;
+    }
+    tally
 }
 
 pub fn all(set: &[u8]) {
     let net = header(set);
     let n = net.n;
-    let none = Tally {
-        delivered: 0,
-        dropped: 0,
-        refused: 0,
-        longest: 0,
-    };
-    let up = every(set, n, 0, 1, none);
+    let up = every(set, n, 0, 1, 0);
     let links = every(set, n, 1, net.m as usize, up);
     shown(every(set, n, 2, n as usize, links));
 }

@@ -6,10 +6,10 @@ use Rattle.cases.proofs.change.all.Statement.{statement}
 use Rattle.cases.proofs.change.all.Tie as tie
 
 abbrev Inv-loop : tie.InvT-loop
-Inv-loop words from file₀ long c₀ turn₀ file c turn = (turn ≤ 40) × (length file ≡ length file₀)
+Inv-loop words from file₀ long done₀ turn₀ file done turn = (turn ≤ 40) × (length file ≡ length file₀)
 
 abbrev μ-loop : tie.MeasureT-loop
-μ-loop words from file₀ long c₀ turn₀ file c turn = 40 - turn
+μ-loop words from file₀ long done₀ turn₀ file done turn = 40 - turn
 
 loop-holds : tie.Need-loop-holds Inv-loop μ-loop
 loop-holds c = search needs
