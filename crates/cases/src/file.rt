@@ -1,5 +1,4 @@
 // The house file, as its own crate reads it.
-pub use housefile::byte;
 pub use housefile::header;
 pub use housefile::home_place;
 pub use housefile::judge;

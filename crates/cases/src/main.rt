@@ -1,18 +1,16 @@
 // The cases.
-mod change; // change.rt: the changes that a case makes to its file
 mod entry; // entry.rt: what is asked of the file, one function for each entry
 mod file; // file.rt: the bytes of a file
 mod room; // room.rt: rooms that are lent
 mod run; // run.rt: one run
-mod show; // show.rt: what is written
 mod sweep; // sweep.rt: every single failure of a set
-mod text; // text.rt: words and numbers
 
 use console::file_room;
-use file::byte;
-use text::NONE;
-use text::part;
-use text::piece;
+use wording::NONE;
+use wording::byte;
+use wording::change;
+use wording::part;
+use wording::piece;
 
 // ---- one case
 
@@ -40,7 +38,7 @@ fn line(list: &[u8], start: usize, colon: usize, end: usize) {
     match byte(list, start) {
         0 | b'\n' | b'#' => (),
         _ => {
-            show::text(part(list, start, colon));
+            wording::show::text(part(list, start, colon));
             case(part(list, colon, end));
         }
     }

@@ -1,8 +1,8 @@
 // A run, written or only looked at. Its answer is a refusal, or how it ended, its hops, its last topology and the letter of its
 // change, 8 bits each.
 use crate::room;
-use crate::show;
-use crate::text::least;
+use wording::show;
+use wording::least;
 use burnishpeg::burnishpeg_run;
 
 // The nodes visited are one more than the hops.

@@ -2,8 +2,8 @@
 // dropped where its destination is the failed node; refused by 12 where its source is.
 use crate::file::header;
 use crate::run::run;
-use crate::show;
-use crate::text::least;
+use wording::show;
+use wording::least;
 use std::num::wrapping_add_u64;
 
 // ---- the run with this number: the failed link's or node's number, 5 bits for the source, and 5 for the destination

@@ -1,8 +1,8 @@
 // What is written. A line begins with the case's name; what follows is phrases and numbers. An answer is one word, as the library
 // packs it.
-use crate::file::byte;
-use crate::text::least;
-use crate::text::piece;
+use crate::byte;
+use crate::least;
+use crate::piece;
 use libc::STDOUT_FILENO;
 use std::num::wrapping_add_usize;
 use std::num::wrapping_sub_usize;

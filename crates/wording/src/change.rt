@@ -1,9 +1,9 @@
 // The changes that a case makes to its file. The file goes on with zero bytes: `byte P V` changes byte P, and `long N` says how many
 // bytes are the file. The work so far is one number: the file's length, or NONE, below WORD, and the next word times WORD.
-use crate::text::NONE;
-use crate::text::has_word;
-use crate::text::name;
-use crate::text::number;
+use crate::NONE;
+use crate::has_word;
+use crate::name;
+use crate::number;
 use std::num::wrapping_add_usize;
 
 const LONG: u64 = 0x6c6f6e67;

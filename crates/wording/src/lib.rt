@@ -1,10 +1,17 @@
 // Text by its parts: words, what they are called and what numbers they write. Every part can be asked for: what is not there is empty.
-use crate::file::byte;
+pub mod change; // change.rt: the changes that a case makes to its file
+pub mod show; // show.rt: what is written
+
 use std::num::wrapping_add_usize;
 ghost use Prim.Native.Nat.{_≤_};
 
 // Stands for what is no number from 0 to 65535.
 pub const NONE: usize = 65536;
+
+// The byte at a place, or 0 past the end.
+pub fn byte(text: &[u8], at: usize) -> u8 {
+    if at < text.len() { text[at] } else { 0 }
+}
 
 pub fn least(a: usize, b: usize) -> usize
     ensures { λ r. ⌜ r ≤ b ⌝ }

@@ -1,7 +1,7 @@
 use borrow.Author.Needs.{needs}
 use Prim.Native.Nat.{_-_, _≤_}
-use Rattle.cases.proofs.show.numbers.Statement.{statement}
-use Rattle.cases.proofs.show.numbers.Tie as tie
+use Rattle.wording.proofs.show.numbers.Statement.{statement}
+use Rattle.wording.proofs.show.numbers.Tie as tie
 
 abbrev Inv-loop : tie.InvT-loop
 Inv-loop title file from step mask count at₀ i₀ at i = i ≤ count

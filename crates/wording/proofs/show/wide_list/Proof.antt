@@ -1,7 +1,7 @@
 use borrow.Author.Needs.{needs}
 use Prim.Native.Nat.{_-_, _≤_}
-use Rattle.cases.proofs.show.wide_list.Statement.{statement}
-use Rattle.cases.proofs.show.wide_list.Tie as tie
+use Rattle.wording.proofs.show.wide_list.Statement.{statement}
+use Rattle.wording.proofs.show.wide_list.Tie as tie
 
 abbrev Inv-loop : tie.InvT-loop
 Inv-loop title list count most i₀ i = i ≤ most

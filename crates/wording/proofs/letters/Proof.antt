@@ -1,8 +1,8 @@
 use borrow.Author.Needs.{needs}
 use Prim.Native.Nat.{_-_, _≤_}
 use lib.ListN.{length}
-use Rattle.cases.proofs.text.letters.Statement.{statement}
-use Rattle.cases.proofs.text.letters.Tie as tie
+use Rattle.wording.proofs.letters.Statement.{statement}
+use Rattle.wording.proofs.letters.Tie as tie
 
 abbrev Inv-loop : tie.InvT-loop
 Inv-loop text sum₀ i₀ sum i = i ≤ length text

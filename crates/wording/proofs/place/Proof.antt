@@ -1,8 +1,8 @@
 use borrow.Author.Needs.{needs}
 use Prim.Native.Nat.{_-_, _≤_}
 use lib.ListN.{length}
-use Rattle.cases.proofs.text.place.Statement.{statement}
-use Rattle.cases.proofs.text.place.Tie as tie
+use Rattle.wording.proofs.place.Statement.{statement}
+use Rattle.wording.proofs.place.Tie as tie
 
 abbrev Inv-loop : tie.InvT-loop
 Inv-loop text mark i left₀ at₀ left at = at ≤ length text

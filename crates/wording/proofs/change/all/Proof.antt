@@ -2,8 +2,8 @@ use borrow.Author.Needs.{needs}
 use Prim.Native.Nat.{_-_, _≤_}
 use lib.ListN.{length}
 use mathlib.Core.Path.{_≡_}
-use Rattle.cases.proofs.change.all.Statement.{statement}
-use Rattle.cases.proofs.change.all.Tie as tie
+use Rattle.wording.proofs.change.all.Statement.{statement}
+use Rattle.wording.proofs.change.all.Tie as tie
 
 abbrev Inv-loop : tie.InvT-loop
 Inv-loop words from file₀ long done₀ turn₀ file done turn = (turn ≤ 40) × (length file ≡ length file₀)
