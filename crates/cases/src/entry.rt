@@ -3,40 +3,30 @@
 use crate::file;
 use crate::room;
 use crate::run::run;
-use wording::show;
 use crate::sweep;
-use wording::NONE;
-use wording::least;
-use wording::name;
-use wording::number;
-use wording::part;
 use burnishpeg::burnishpeg_build;
 use burnishpeg::burnishpeg_check;
 use burnishpeg::burnishpeg_read;
 use rules::Network;
 use rules::Verdict;
 use std::num::wrapping_add_usize;
+use wording::asked::BUILD;
+use wording::asked::CHECK;
+use wording::asked::JUDGE;
+use wording::asked::READ;
+use wording::asked::REPORT;
+use wording::asked::RUN;
+use wording::asked::SWEEP;
+use wording::asked::after;
+use wording::asked::asked;
+use wording::asked::failed;
+use wording::asked::kind;
+use wording::asked::up_to;
+use wording::least;
+use wording::number;
+use wording::part;
+use wording::show;
 ghost use Prim.Native.Nat.{_≤_};
-
-const JUDGE: u64 = 0x6a75646765;
-
-const CHECK: u64 = 0x636865636b;
-
-const SWEEP: u64 = 0x7377656570;
-
-const REPORT: u64 = 0x7265706f7274;
-
-const READ: u64 = 0x72656164;
-
-const BUILD: u64 = 0x6275696c64;
-
-const RUN: u64 = 0x72756e;
-
-const NOTHING: u64 = 0x6e6f7468696e67;
-
-const LINK: u64 = 0x6c696e6b;
-
-const NODE: u64 = 0x6e6f6465;
 
 // ---- judge FILE
 
@@ -60,28 +50,6 @@ fn report(file: &[u8]) {
 
 // ---- read FILE A B WEIGHTS HOMES ROWS
 
-fn counts(word: u64) {
-    show::next(word & 255);
-    show::next((word >> 8) & 65535);
-    show::next((word >> 24) & 255);
-    show::next((word >> 32) & 65535);
-    show::put(b'\n');
-}
-
-fn read_answer(word: u64) {
-    show::put(b':');
-    match word >> 63 {
-        0 => counts(word),
-        _ => show::refused(word),
-    }
-}
-
-fn up_to(words: &[u8], i: usize, most: usize) -> usize
-    ensures { λ r. ⌜ r ≤ most ⌝ }
-{
-    least(number(words, i), most)
-}
-
 // Into lists of these lengths, each entry 7.
 fn read_into(file: &[u8], a: usize, b: usize, weights: usize, homes: usize, rows: usize)
     requires { ⌜ (a ≤ 255) × ((b ≤ 255) × ((weights ≤ 8191) × ((homes ≤ 255) × (rows ≤ 8191)))) ⌝ }
@@ -91,7 +59,7 @@ fn read_into(file: &[u8], a: usize, b: usize, weights: usize, homes: usize, rows
     let mut w = room::wide();
     let mut h = room::bytes();
     let mut r = room::wide();
-    read_answer(burnishpeg_read(
+    show::read(burnishpeg_read(
         file,
         &mut x[0..a],
         &mut y[0..b],
@@ -164,41 +132,6 @@ fn build(words: &[u8], graph: &[u8]) {
 
 // ---- run FILE SOURCE DESTINATION FAILURE, and then TABLES TRAIL where the rooms are to be short
 
-// The failure as the library counts: nothing, a link, a node; 3 is none of them.
-fn kind(words: &[u8]) -> u8 {
-    match name(words, 4) {
-        NOTHING => 0,
-        LINK => 1,
-        NODE => 2,
-        _ => 3,
-    }
-}
-
-// The failed link or node by its number.
-fn failed(words: &[u8], kind: u8) -> usize {
-    match kind {
-        0 => 0,
-        3 => NONE,
-        _ => number(words, 5),
-    }
-}
-
-// The word after the failure.
-fn after(kind: u8) -> usize {
-    match kind {
-        0 => 5,
-        _ => 6,
-    }
-}
-
-fn run_words(words: &[u8]) -> usize {
-    let next = after(kind(words));
-    match number(words, next) {
-        0..=65535 => wrapping_add_usize(next, 2),
-        _ => next,
-    }
-}
-
 fn run_case(words: &[u8], set: &[u8]) {
     let down = kind(words);
     let which = least(failed(words, down), 65535) as u16;
@@ -211,36 +144,6 @@ fn run_case(words: &[u8], set: &[u8]) {
 }
 
 // ---- all of them
-
-// How many words the entry takes, its own and the file's among them.
-pub fn own_words(words: &[u8]) -> usize {
-    match name(words, 0) {
-        JUDGE | CHECK | SWEEP | REPORT => 2,
-        BUILD => 4,
-        READ => 7,
-        RUN => run_words(words),
-        _ => NONE,
-    }
-}
-
-fn either(words: &[u8], i: usize, j: usize) -> usize {
-    number(words, i) | number(words, j)
-}
-
-// Below NONE where every number that the entry takes is one and is in its range: numbers up to 255 are shifted by 8, and so on.
-fn ranges(words: &[u8]) -> usize {
-    match name(words, 0) {
-        BUILD => (number(words, 2) << 8) | (number(words, 3) << 2),
-        READ => ((either(words, 2, 3) | number(words, 5)) << 8) | (either(words, 4, 6) << 3),
-        RUN => (either(words, 2, 3) << 8) | failed(words, kind(words)),
-        _ => 0,
-    }
-}
-
-// Word 0, or none where the case is not understood.
-fn asked(words: &[u8], long: usize) -> u64 {
-    if (ranges(words) | long) < NONE { name(words, 0) } else { 0 }
-}
 
 pub fn answer(words: &[u8], file: &[u8], long: usize) {
     match asked(words, long) {

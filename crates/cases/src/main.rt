@@ -7,6 +7,7 @@ mod sweep; // sweep.rt: every single failure of a set
 
 use console::file_room;
 use wording::NONE;
+use wording::asked::own_words;
 use wording::byte;
 use wording::change;
 use wording::part;
@@ -25,11 +26,15 @@ fn stored(name: &[u8], room: &mut [u8]) -> usize {
     long
 }
 
+fn changed(words: &[u8], file: &mut [u8]) {
+    let long = stored(piece(words, b' ', 1), file);
+    let size = change::all(words, own_words(words), file, long);
+    entry::answer(words, part(file, 0, size), size);
+}
+
 fn case(words: &[u8]) {
     let mut file = file_room();
-    let long = stored(piece(words, b' ', 1), &mut file);
-    let size = change::all(words, entry::own_words(words), &mut file, long);
-    entry::answer(words, part(&file, 0, size), size);
+    changed(words, &mut file);
 }
 
 // ---- the list

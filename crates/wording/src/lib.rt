@@ -1,6 +1,8 @@
 // Text by its parts: words, what they are called and what numbers they write. Every part can be asked for: what is not there is empty.
+pub mod asked; // asked.rt: what a case asks
 pub mod change; // change.rt: the changes that a case makes to its file
 pub mod show; // show.rt: what is written
+pub mod tally; // tally.rt: what a sweep counts
 
 use std::num::wrapping_add_usize;
 ghost use Prim.Native.Nat.{_≤_};

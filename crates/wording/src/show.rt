@@ -67,11 +67,14 @@ pub const FIRST_BYTE: usize = 21;
 
 pub const LONGEST: usize = 22;
 
-pub const UNCLEAR: usize = 23;
+// The failure of a run that went wrong: nothing, and then a link and a node.
+pub const DOWN: usize = 23;
+
+pub const UNCLEAR: usize = 26;
 
 pub fn say(phrase: usize) {
     text(piece(
-        b"| under way| delivered| dropped| refused| taken\n| at| bytes\n| hops| topology| kind | trail| WRONG from| to|  ends a|  ends b|  weights|  homes|  rows|  row|  its check|  the byte after it|  first lent byte|, longest|: not understood: an unknown word, no such file, or more room than there is\n",
+        b"| under way| delivered| dropped| refused| taken\n| at| bytes\n| hops| topology| kind | trail| WRONG from| to|  ends a|  ends b|  weights|  homes|  rows|  row|  its check|  the byte after it|  first lent byte|, longest|, nothing|, link|, node|: not understood: an unknown word, no such file, or more room than there is\n",
         b'|',
         phrase,
     ));
@@ -91,6 +94,23 @@ pub fn verdict(word: u64) {
     put(b':');
     match word {
         0 => say(TAKEN),
+        _ => refused(word),
+    }
+}
+
+// Counts of 8, 16, 8 and 16 bits.
+fn counts(word: u64) {
+    next(word & 255);
+    next((word >> 8) & 65535);
+    next((word >> 24) & 255);
+    next((word >> 32) & 65535);
+    put(b'\n');
+}
+
+pub fn read(word: u64) {
+    put(b':');
+    match word >> 63 {
+        0 => counts(word),
         _ => refused(word),
     }
 }
@@ -132,4 +152,29 @@ pub fn wide_list(title: usize, list: &[u16; 8192], count: usize) {
         i += 1;
     }
     put(b'\n');
+}
+
+// ---- runs
+
+// How a run ended, its hops, its last topology and the letter of its change, 8 bits each. The nodes visited are one more than the hops.
+fn journey(word: u64, trail: &[u8; 256]) {
+    let hops = (word >> 8) % 256;
+    say((word % 256) as usize);
+    say(HOPS);
+    next(hops);
+    say(TOPOLOGY);
+    next((word >> 16) & 255);
+    say(KIND);
+    put(((word >> 24) % 256) as u8);
+    list(TRAIL, trail, 1 + hops as usize);
+}
+
+pub fn ended(word: u64, trail: &[u8; 256]) {
+    match word >> 63 {
+        0 => journey(word, trail),
+        _ => {
+            say(REFUSED);
+            refused(word);
+        }
+    }
 }

@@ -4,10 +4,10 @@ use Rattle.cases.proofs.sweep.every.Statement.{statement}
 use Rattle.cases.proofs.sweep.every.Tie as tie
 
 abbrev Inv-loop : tie.InvT-loop
-Inv-loop set n kind count before most tally₀ i₀ tally i = i ≤ most
+Inv-loop set n kind count before most sum₀ i₀ sum i = i ≤ most
 
 abbrev μ-loop : tie.MeasureT-loop
-μ-loop set n kind count before most tally₀ i₀ tally i = most - i
+μ-loop set n kind count before most sum₀ i₀ sum i = most - i
 
 least-requires : tie.Need-least-requires Inv-loop μ-loop
 least-requires c κs = search needs

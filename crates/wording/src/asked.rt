@@ -1,0 +1,99 @@
+// What a case asks: its entry, the numbers that the entry takes, and the failure of a run.
+use crate::NONE;
+use crate::least;
+use crate::name;
+use crate::number;
+use std::num::wrapping_add_usize;
+ghost use Prim.Native.Nat.{_≤_};
+
+pub const JUDGE: u64 = 0x6a75646765;
+
+pub const CHECK: u64 = 0x636865636b;
+
+pub const SWEEP: u64 = 0x7377656570;
+
+pub const REPORT: u64 = 0x7265706f7274;
+
+pub const READ: u64 = 0x72656164;
+
+pub const BUILD: u64 = 0x6275696c64;
+
+pub const RUN: u64 = 0x72756e;
+
+const NOTHING: u64 = 0x6e6f7468696e67;
+
+const LINK: u64 = 0x6c696e6b;
+
+const NODE: u64 = 0x6e6f6465;
+
+pub fn up_to(words: &[u8], i: usize, most: usize) -> usize
+    ensures { λ r. ⌜ r ≤ most ⌝ }
+{
+    least(number(words, i), most)
+}
+
+// The failure as the library counts: nothing, a link, a node; 3 is none of them.
+pub fn kind(words: &[u8]) -> u8 {
+    match name(words, 4) {
+        NOTHING => 0,
+        LINK => 1,
+        NODE => 2,
+        _ => 3,
+    }
+}
+
+// The failed link or node by its number.
+pub fn failed(words: &[u8], kind: u8) -> usize {
+    match kind {
+        0 => 0,
+        3 => NONE,
+        _ => number(words, 5),
+    }
+}
+
+// The word after the failure.
+pub fn after(kind: u8) -> usize {
+    match kind {
+        0 => 5,
+        _ => 6,
+    }
+}
+
+fn run_words(words: &[u8]) -> usize {
+    let next = after(kind(words));
+    match number(words, next) {
+        0..=65535 => wrapping_add_usize(next, 2),
+        _ => next,
+    }
+}
+
+// How many words the entry takes, its own and the file's among them.
+pub fn own_words(words: &[u8]) -> usize {
+    match name(words, 0) {
+        JUDGE | CHECK | SWEEP | REPORT => 2,
+        BUILD => 4,
+        READ => 7,
+        RUN => run_words(words),
+        _ => NONE,
+    }
+}
+
+fn either(words: &[u8], i: usize, j: usize) -> usize {
+    number(words, i) | number(words, j)
+}
+
+// Below NONE where every number that the entry takes is one and is in its range: numbers up to 255 are shifted by 8, and so on.
+fn ranges(words: &[u8]) -> usize {
+    match name(words, 0) {
+        BUILD => (number(words, 2) << 8) | (number(words, 3) << 2),
+        READ => ((either(words, 2, 3) | number(words, 5)) << 8) | (either(words, 4, 6) << 3),
+        RUN => (either(words, 2, 3) << 8) | failed(words, kind(words)),
+        _ => 0,
+    }
+}
+
+// Word 0, or none where the case is not understood.
+pub fn asked(words: &[u8], long: usize) -> u64 {
+    if (ranges(words) | long) < NONE { name(words, 0) } else { 0 }
+}
+
