@@ -1,5 +1,5 @@
-// The entries: one small function for each, over the file as the case has it. Word 0 names the entry, word 1 the file, and what
-// the entry itself asks for begins at word 2.
+// The entries: one small function for each, over the file as the case has it. They are the library's own, as C calls them, so an answer
+// is one word; but for the judge, which the library does not hand out, and the report, which the program `coverage` writes.
 use crate::file;
 use crate::room;
 use crate::run::run;
@@ -18,7 +18,7 @@ use wording::asked::REPORT;
 use wording::asked::RUN;
 use wording::asked::SWEEP;
 use wording::asked::after;
-use wording::asked::asked;
+use wording::asked::entry;
 use wording::asked::failed;
 use wording::asked::kind;
 use wording::asked::up_to;
@@ -30,12 +30,12 @@ ghost use Prim.Native.Nat.{_≤_};
 
 // ---- judge FILE
 
-// The judge is no entry of the library: its answer as the library would pack it.
+// Its answer as the library would pack it.
 fn judge(file: &[u8]) -> u64 {
     let v = file::judge(file);
     match v {
         Verdict::Accepted => 0,
-        Verdict::Refused { number, place } => ((2147483648 | number as u64) << 32) | place as u64,
+        Verdict::Refused { number, place } => ((0x80000000 | number as u64) << 32) | place as u64,
     }
 }
 
@@ -87,23 +87,31 @@ fn read(words: &[u8], file: &[u8]) {
 
 // ---- build FILE CAP ROOM
 
+// A row's first weight has its low byte one byte after the head.
 fn rows(set: &[u8], net: Network) {
     let k = net.k;
     let mut j: u8 = 0;
     while j < k {
-        let first = file::row_place(net, j as usize) + 4;
-        show::numbers(show::ROW, set, first, 2, 65535, net.m as usize);
+        let first = file::row_place(net, j as usize) + Network::ROW_HEAD + 1;
+        show::numbers(
+            show::ROW,
+            set,
+            first,
+            Network::WEIGHT,
+            65535,
+            net.m as usize,
+        );
         j += 1;
     }
 }
 
-// The set at the front of a lent file: its homes and rows, the check of it, and the byte that follows.
+// The set at the front of a lent file: its homes, each a record's last byte, and its rows; the check of it; the byte that follows.
 fn built(file: &[u8], long: usize) {
     let net = file::header(file);
     let first = file::home_place(net, 0) + 3;
     show::next(long as u64);
     show::say(show::BYTES);
-    show::numbers(show::HOMES, file, first, 4, 255, net.n as usize);
+    show::numbers(show::HOMES, file, first, Network::HOME, 255, net.n as usize);
     rows(file, net);
     show::say(show::ITS_CHECK);
     show::verdict(burnishpeg_check(part(file, 0, long)));
@@ -130,7 +138,7 @@ fn build(words: &[u8], graph: &[u8]) {
     build_answer(word, &file, long);
 }
 
-// ---- run FILE SOURCE DESTINATION FAILURE, and then TABLES TRAIL where the rooms are to be short
+// ---- run FILE SOURCE DESTINATION FAILURE, and then TABLES TRAIL or nothing: a number that is not there is more than the room
 
 fn run_case(words: &[u8], set: &[u8]) {
     let down = kind(words);
@@ -146,7 +154,7 @@ fn run_case(words: &[u8], set: &[u8]) {
 // ---- all of them
 
 pub fn answer(words: &[u8], file: &[u8], long: usize) {
-    match asked(words, long) {
+    match entry(words, long) {
         JUDGE => show::verdict(judge(file)),
         CHECK => show::verdict(burnishpeg_check(file)),
         SWEEP => sweep::all(file),

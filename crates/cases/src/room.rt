@@ -16,7 +16,7 @@ pub fn wide() -> [u16; 8192]
     [7; 8192]
 }
 
-// For a set.
+// For a set that is built.
 pub fn set() -> [u8; 16384]
     ensures { λ r. ⌜ 16384 ≡ length r ⌝ }
 {

@@ -4,7 +4,7 @@ use burnishpeg::burnishpeg_run;
 use wording::least;
 use wording::show;
 
-// With so much room for the tables and for the trail.
+// With so much room for the tables and for the trail, as far as there is. Its answer, which is written where it is to be shown.
 pub fn run(
     set: &[u8],
     source: u8,
@@ -19,7 +19,15 @@ pub fn run(
     let mut b = room::bytes();
     let x = least(tables, 65536);
     let y = least(trail, 256);
-    let word = burnishpeg_run(set, source, destination, kind, failed, &mut a[0..x], &mut b[0..y]);
+    let word = burnishpeg_run(
+        set,
+        source,
+        destination,
+        kind,
+        failed,
+        &mut a[0..x],
+        &mut b[0..y],
+    );
     if shown {
         show::ended(word, &b);
     }

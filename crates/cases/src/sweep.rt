@@ -5,6 +5,7 @@ use crate::run::run;
 use wording::least;
 use wording::tally;
 
+// Run number i, where there is such a run, and the tally after it.
 fn tried(set: &[u8], n: u8, kind: u8, i: usize, sum: u64) -> u64 {
     if tally::is_run(i, n) {
         let word = run(
@@ -23,7 +24,7 @@ fn tried(set: &[u8], n: u8, kind: u8, i: usize, sum: u64) -> u64 {
     sum
 }
 
-// With each of so many links or nodes failed.
+// With each of so many links or nodes failed, or with nothing, once.
 fn every(set: &[u8], n: u8, kind: u8, count: usize, before: u64) -> u64 {
     let most = 1024 * least(count, 65535);
     let mut sum = before;

@@ -1,4 +1,4 @@
-// What a case asks: its entry, the numbers that the entry takes, and the failure of a run.
+// What a case asks. Word 0 is the entry's name, word 1 the file's; the numbers that the entry takes begin at word 2.
 use crate::NONE;
 use crate::least;
 use crate::name;
@@ -6,6 +6,7 @@ use crate::number;
 use std::num::wrapping_add_usize;
 ghost use Prim.Native.Nat.{_≤_};
 
+// The letters of the words: judge, check, sweep, report, read, build and run are entries; a run's failure is nothing, link or node.
 pub const JUDGE: u64 = 0x6a75646765;
 
 pub const CHECK: u64 = 0x636865636b;
@@ -26,13 +27,16 @@ const LINK: u64 = 0x6c696e6b;
 
 const NODE: u64 = 0x6e6f6465;
 
+// Number i, of which `ranges` has seen to it that it is not larger.
 pub fn up_to(words: &[u8], i: usize, most: usize) -> usize
     ensures { λ r. ⌜ r ≤ most ⌝ }
 {
     least(number(words, i), most)
 }
 
-// The failure as the library counts: nothing, a link, a node; 3 is none of them.
+// ---- run FILE SOURCE DESTINATION FAILURE, and then TABLES TRAIL or nothing
+
+// The failure as the library counts: 0 nothing, 1 a link, 2 a node; 3 is none of them.
 pub fn kind(words: &[u8]) -> u8 {
     match name(words, 4) {
         NOTHING => 0,
@@ -67,7 +71,9 @@ fn run_words(words: &[u8]) -> usize {
     }
 }
 
-// How many words the entry takes, its own and the file's among them.
+// ---- all entries
+
+// How many words the entry takes, its name and the file's among them. What follows are changes.
 pub fn own_words(words: &[u8]) -> usize {
     match name(words, 0) {
         JUDGE | CHECK | SWEEP | REPORT => 2,
@@ -82,7 +88,8 @@ fn either(words: &[u8], i: usize, j: usize) -> usize {
     number(words, i) | number(words, j)
 }
 
-// Below NONE where every number that the entry takes is one and is in its range: numbers up to 255 are shifted by 8, and so on.
+// Below NONE exactly where every number that the entry takes is given and fits its room: a number fits 8 bits where it is below NONE
+// after a shift by 8, and so on, and several are where their `|` is.
 fn ranges(words: &[u8]) -> usize {
     match name(words, 0) {
         BUILD => (number(words, 2) << 8) | (number(words, 3) << 2),
@@ -92,8 +99,11 @@ fn ranges(words: &[u8]) -> usize {
     }
 }
 
-// Word 0, or none where the case is not understood.
-pub fn asked(words: &[u8], long: usize) -> u64 {
-    if (ranges(words) | long) < NONE { name(words, 0) } else { 0 }
+// The entry's name, or 0 where the case is not understood; `long` is its file's length, or NONE.
+pub fn entry(words: &[u8], long: usize) -> u64 {
+    if (ranges(words) | long) < NONE {
+        name(words, 0)
+    } else {
+        0
+    }
 }
-

@@ -1,4 +1,6 @@
-// Text by its parts: words, what they are called and what numbers they write. Every part can be asked for: what is not there is empty.
+// What a case is written in, and what its answer is written in: text by its words and numbers. Nothing here knows the network: the
+// program `cases` does. Every function can be asked anything: what is not there is empty, 0 or NONE. So none promises more than
+// that it is safe and ends, but for the bounds that a room's parts need.
 pub mod asked; // asked.rt: what a case asks
 pub mod change; // change.rt: the changes that a case makes to its file
 pub mod show; // show.rt: what is written
@@ -10,15 +12,17 @@ ghost use Prim.Native.Nat.{_≤_};
 // Stands for what is no number from 0 to 65535.
 pub const NONE: usize = 65536;
 
-// The byte at a place, or 0 past the end.
-pub fn byte(text: &[u8], at: usize) -> u8 {
-    if at < text.len() { text[at] } else { 0 }
-}
-
 pub fn least(a: usize, b: usize) -> usize
     ensures { λ r. ⌜ r ≤ b ⌝ }
 {
     if a < b { a } else { b }
+}
+
+// ---- parts of a text
+
+// The byte at a place, or 0 past the end.
+pub fn byte(text: &[u8], at: usize) -> u8 {
+    if at < text.len() { text[at] } else { 0 }
 }
 
 // The bytes from start on and before end, as far as the text has them.
@@ -52,6 +56,10 @@ pub fn piece(text: &[u8], mark: u8, i: usize) -> &[u8] {
 
 // ---- words: each has one space before it
 
+pub fn word(text: &[u8], i: usize) -> &[u8] {
+    piece(text, b' ', i)
+}
+
 pub fn has_word(text: &[u8], i: usize) -> bool {
     place(text, b' ', i) < text.len()
 }
@@ -66,9 +74,10 @@ fn letters(text: &[u8]) -> u64 {
     sum
 }
 
-// The letters of word i, up to eight, as one number: 8 bits each.
+// The letters of word i as one number, 8 bits each, so that a word can be told by a `match`. No word that is looked for has more
+// than seven.
 pub fn name(text: &[u8], i: usize) -> u64 {
-    letters(piece(text, b' ', i))
+    letters(word(text, i))
 }
 
 // ---- numbers

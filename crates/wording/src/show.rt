@@ -1,5 +1,5 @@
-// What is written. A line begins with the case's name; what follows is phrases and numbers. An answer is one word, as the library
-// packs it.
+// What is written: phrases, numbers and lists after a case's name. An answer is one word as the library packs it: in bit 63 whether
+// it is a refusal.
 use crate::byte;
 use crate::least;
 use crate::piece;
@@ -21,7 +21,8 @@ pub fn next(x: u64) {
     io::print_decimal(STDOUT_FILENO, x);
 }
 
-// ---- phrases, by their places in one text; the first three are how a run ended
+// ---- phrases, by their numbers in one text: a string for each where it is written would take longer to check. The first are how a
+// run ended, as the library counts.
 
 pub const DELIVERED: usize = 1;
 
@@ -74,7 +75,7 @@ pub const UNCLEAR: usize = 26;
 
 pub fn say(phrase: usize) {
     text(piece(
-        b"| under way| delivered| dropped| refused| taken\n| at| bytes\n| hops| topology| kind | trail| WRONG from| to|  ends a|  ends b|  weights|  homes|  rows|  row|  its check|  the byte after it|  first lent byte|, longest|, nothing|, link|, node|: not understood: an unknown word, no such file, or more room than there is\n",
+        b"| under way| delivered| dropped| refused| taken\n| at| bytes\n| hops| topology| kind | trail|\n  WRONG from| to|  ends a|  ends b|  weights|  homes|  rows|  row|  its check|  the byte after it|  first lent byte|, longest|, nothing|, link|, node|: not understood: an unknown word, no such file, or more room than there is\n",
         b'|',
         phrase,
     ));
@@ -98,7 +99,7 @@ pub fn verdict(word: u64) {
     }
 }
 
-// Counts of 8, 16, 8 and 16 bits.
+// n, m, k and wmax, of 8, 16, 8 and 16 bits.
 fn counts(word: u64) {
     next(word & 255);
     next((word >> 8) & 65535);
@@ -117,12 +118,13 @@ pub fn read(word: u64) {
 
 // ---- lists
 
+// The number whose low byte stands at this place.
 fn two(file: &[u8], at: usize) -> u64 {
     256 * (byte(file, wrapping_sub_usize(at, 1)) as u64) + byte(file, at) as u64
 }
 
-// So many numbers of two bytes, as far as the mask lets them through: the first with its low byte at `from`, and each so many bytes
-// after the one before.
+// So many numbers of a file: the first's low byte stands at `from`, and each next one's a step on. The mask is 255 for a byte and
+// 65535 for two.
 pub fn numbers(title: usize, file: &[u8], from: usize, step: usize, mask: u64, count: usize) {
     say(title);
     let mut at = from;
@@ -156,7 +158,7 @@ pub fn wide_list(title: usize, list: &[u16; 8192], count: usize) {
 
 // ---- runs
 
-// How a run ended, its hops, its last topology and the letter of its change, 8 bits each. The nodes visited are one more than the hops.
+// How it ended, its hops, its last topology and the letter of its change, 8 bits each. The nodes visited are one more than the hops.
 fn journey(word: u64, trail: &[u8; 256]) {
     let hops = (word >> 8) % 256;
     say((word % 256) as usize);

@@ -3,7 +3,7 @@ use crate::show;
 use std::num::wrapping_add_u64;
 use std::num::wrapping_add_usize;
 
-// ---- the run with this number: the failed link's or node's number, 5 bits for the source, and 5 for the destination
+// ---- the run with number i: from bit 10 on the failed link or node, then 5 bits for the source and 5 for the destination
 
 pub fn failed(i: usize) -> u16 {
     ((i >> 10) % 65536) as u16
@@ -29,14 +29,14 @@ pub fn is_run(i: usize, n: u8) -> bool {
     false
 }
 
-// ---- how it ended: its answer's last 8 bits, or the refusal
+// ---- how it ends: the answer's last 8 bits, or what stands from bit 32 on where it is refused
 
 const DELIVERED: u64 = 1;
 
 const DROPPED: u64 = 2;
 
-// Refusal 12, from bit 32 on.
-const REFUSED: u64 = 2147483660;
+// By 12.
+const REFUSED: u64 = 0x8000000c;
 
 fn how(word: u64) -> u64 {
     match word >> 63 {
@@ -45,7 +45,7 @@ fn how(word: u64) -> u64 {
     }
 }
 
-// How it must end where a node failed.
+// Where a node failed.
 fn with_node(i: usize) -> u64 {
     if failed(i) == source(i) as u16 {
         return REFUSED;
@@ -56,7 +56,6 @@ fn with_node(i: usize) -> u64 {
     DELIVERED
 }
 
-// The failure is nothing, a link or a node.
 fn expected(kind: u8, i: usize) -> u64 {
     match kind {
         2 => with_node(i),
@@ -83,15 +82,19 @@ pub fn look(word: u64, kind: u8, i: usize, n: u8) {
     wrong(kind, i);
 }
 
-// ---- the tally is one number: 18 bits each for the runs delivered, dropped and refused, and then the most hops
+// ---- the tally is one number: 18 bits for the runs delivered, 18 for those dropped, 18 for those refused, and then the most hops
 
-const HOPS: u64 = 18014398509481984;
+const ONE_DROPPED: u64 = 1 << 18;
+
+const ONE_REFUSED: u64 = 1 << 36;
+
+const ONE_HOP: u64 = 1 << 54;
 
 fn one_more(word: u64) -> u64 {
     match how(word) {
         DELIVERED => 1,
-        DROPPED => 262144,
-        REFUSED => 68719476736,
+        DROPPED => ONE_DROPPED,
+        REFUSED => ONE_REFUSED,
         _ => 0,
     }
 }
@@ -99,21 +102,25 @@ fn one_more(word: u64) -> u64 {
 pub fn counted(tally: u64, word: u64) -> u64 {
     let sum = wrapping_add_u64(tally, one_more(word));
     let hops = (word >> 8) & 255;
-    if sum / HOPS < hops { (hops << 54) | (sum % HOPS) } else { sum }
+    if sum / ONE_HOP < hops {
+        (hops << 54) | (sum % ONE_HOP)
+    } else {
+        sum
+    }
 }
 
 pub fn shown(tally: u64) {
     show::put(b':');
-    show::next(tally & 262143);
+    show::next(tally % ONE_DROPPED);
     show::say(show::DELIVERED);
     show::put(b',');
-    show::next((tally >> 18) & 262143);
+    show::next(tally % ONE_REFUSED / ONE_DROPPED);
     show::say(show::DROPPED);
     show::put(b',');
-    show::next((tally >> 36) & 262143);
+    show::next(tally % ONE_HOP / ONE_REFUSED);
     show::say(show::REFUSED);
     show::say(show::LONGEST);
-    show::next(tally >> 54);
+    show::next(tally / ONE_HOP);
     show::say(show::HOPS);
     show::put(b'\n');
 }

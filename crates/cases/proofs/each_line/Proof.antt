@@ -1,14 +1,13 @@
 use borrow.Author.Needs.{needs}
 use Prim.Native.Nat.{_-_, _≤_}
-use lib.ListN.{length}
 use Rattle.cases.proofs.each_line.Statement.{statement}
 use Rattle.cases.proofs.each_line.Tie as tie
 
 abbrev Inv-loop : tie.InvT-loop
-Inv-loop list start₀ colon₀ i₀ start colon i = i ≤ length list
+Inv-loop list long start₀ colon₀ i₀ start colon i = i ≤ long
 
 abbrev μ-loop : tie.MeasureT-loop
-μ-loop list start₀ colon₀ i₀ start colon i = length list - i
+μ-loop list long start₀ colon₀ i₀ start colon i = long - i
 
 loop-holds : tie.Need-loop-holds Inv-loop μ-loop
 loop-holds c = search needs

@@ -21,6 +21,9 @@ row-place-requires c κs = search needs
 add-first : tie.Need-add-first Inv-loop μ-loop
 add-first c = search needs
 
+add-first-2 : tie.Need-add-first-2 Inv-loop μ-loop
+add-first-2 c = search needs
+
 cast-numbers : tie.Need-cast-numbers Inv-loop μ-loop
 cast-numbers c = search needs
 
@@ -49,6 +52,7 @@ rows-spec =
     cast-row-place
     row-place-requires
     add-first
+    add-first-2
     cast-numbers
     numbers-requires
     add-j
