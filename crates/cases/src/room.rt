@@ -3,6 +3,7 @@ ghost use mathlib.Core.Path.{_≡_};
 ghost use lib.ListN.{length};
 
 // For ends, homes or a trail.
+// Rules out: 32 bytes, too few for a longer list; 257 bytes.
 pub fn bytes() -> [u8; 256]
     ensures { λ r. ⌜ 256 ≡ length r ⌝ }
 {
@@ -10,6 +11,7 @@ pub fn bytes() -> [u8; 256]
 }
 
 // For weights.
+// Rules out: 4,096 entries, too few for a longer list; 8,193 entries.
 pub fn wide() -> [u16; 8192]
     ensures { λ r. ⌜ 8192 ≡ length r ⌝ }
 {
@@ -17,6 +19,7 @@ pub fn wide() -> [u16; 8192]
 }
 
 // For a set that is built.
+// Rules out: 9,192 bytes, none past the longest file; 16,385 bytes.
 pub fn set() -> [u8; 16384]
     ensures { λ r. ⌜ 16384 ≡ length r ⌝ }
 {

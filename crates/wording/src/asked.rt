@@ -28,6 +28,7 @@ const LINK: u64 = 0x6c696e6b;
 const NODE: u64 = 0x6e6f6465;
 
 // Number i, of which `ranges` has seen to it that it is not larger.
+// Rules out: more than the most; a number as it stands, whatever it is.
 pub fn up_to(words: &[u8], i: usize, most: usize) -> usize
     ensures { λ r. ⌜ r ≤ most ⌝ }
 {

@@ -6,12 +6,15 @@ pub mod change; // change.rt: the changes that a case makes to its file
 pub mod show; // show.rt: what is written
 pub mod tally; // tally.rt: what a sweep counts
 
+pub use slices::byte;
 use std::num::wrapping_add_usize;
 ghost use Prim.Native.Nat.{_≤_};
 
 // Stands for what is no number from 0 to 65535.
 pub const NONE: usize = 65536;
 
+// The lesser of two.
+// Rules out: the greater of two; a, where b is less.
 pub fn least(a: usize, b: usize) -> usize
     ensures { λ r. ⌜ r ≤ b ⌝ }
 {
@@ -19,11 +22,6 @@ pub fn least(a: usize, b: usize) -> usize
 }
 
 // ---- parts of a text
-
-// The byte at a place, or 0 past the end.
-pub fn byte(text: &[u8], at: usize) -> u8 {
-    if at < text.len() { text[at] } else { 0 }
-}
 
 // The bytes from start on and before end, as far as the text has them.
 pub fn part(text: &[u8], start: usize, end: usize) -> &[u8] {
