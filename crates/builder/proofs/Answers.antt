@@ -4,7 +4,7 @@ use mathlib.Core.Bool.{Bool, true, false}
 use mathlib.Core.List.{List, [], _∷_}
 use Prim.Native.Nat.{ℕ, zero, suc, _-_, _≤_, _<_}
 use native.Mathlib.Omega.{arith}
-use lib.Dec.{eqb, leb}
+use lib.Dec.{leb}
 use lib.ListN.{length, take, replicate, length-replicate}
 use borrow.Author.Tests.{leb-true}
 use Rattle.rules.specs.declared.Network.{Network}
@@ -20,7 +20,7 @@ use Rattle.rules.specs.Judgement.{refuse, andThen, judge, needGraph, needCap, n
 use Rattle.rules.specs.Answers.{tell, lengthTells}
 use Rattle.rules.specs.Entries.Entry.{onAccept, Promise}
 use Rattle.rules.specs.Entries.Build.{builtFrom, buildEntry}
-use Rattle.rules.proofs.Ground.Choices.{need-yes, need-no, need-le, need-le-no, need-eq, need-eq-no, need-ok, refuse-no, refuse-ok, refuse-zero, then-ok, then-no, then-first, then-second, then-on}
+use Rattle.rules.proofs.Ground.Choices.{need-yes, need-no, need-ok, refuse-no, refuse-ok, refuse-zero, then-ok, then-no, then-first, then-second}
 use Rattle.rules.proofs.File.SetOfBytes.{net-held}
 use Rattle.rules.proofs.Entries.Determined.{length-one}
 use Rattle.checker.specs.Graph.{neighbourWords}

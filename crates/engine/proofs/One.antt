@@ -1,13 +1,11 @@
 -- Laws of one topology's tables, as the functions use them.
 use Prim.Native.Nat.{ℕ, suc, _*_, _≤_, _<_}
-use native.Mathlib.Nat.{mul-le-mul, eq-or-lt-of-le, le-of-suc-le-suc}
+use native.Mathlib.Nat.{eq-or-lt-of-le, le-of-suc-le-suc}
 use native.Mathlib.Omega.{arith}
 use mathlib.Core.Path.{_≡_, sym, ap, subst, _∙_}
 use mathlib.Core.Logic.{⊎-elim}
 use mathlib.Core.List.{List}
 use lib.ListN.{length, getD}
-use mir.Syntax.{w32}
-use mir.Val.{Fits}
 use Rattle.rules.specs.declared.Network.{Network}
 use Rattle.rules.specs.Basics.{need, upTo}
 use Rattle.rules.specs.Limits.{restrictedWeight, homeRecords}

@@ -8,7 +8,6 @@ ghost use lib.ListN.{length};
 ghost use Rattle.rules.specs.Basics.{upTo, flat};
 ghost use Rattle.rules.specs.Limits.{tablesLength};
 ghost use Rattle.rules.specs.Distance.{tableBytes};
-ghost use Rattle.rules.specs.Entries.Lists.{lists};
 ghost use Rattle.rules.specs.Sets.{AcceptedSet};
 ghost use Rattle.routes.specs.Listed.{listed};
 ghost use Rattle.routes.specs.Costs.{cost};

@@ -8,16 +8,15 @@ use native.Mathlib.Numerals.{add-one}
 use native.Mathlib.Omega.{arith}
 use lib.Dec.{eqb, ltb, leb}
 use lib.ListN.{length, getD}
-use borrow.Author.Tests.{lt-ltb, ltb-true, eq-eqb, eqb-true, eqb-false, ne-eqb}
+use borrow.Author.Tests.{lt-ltb, ltb-true, eqb-true, eqb-false}
 use Rattle.rules.specs.declared.Network.{Network}
 use Rattle.rules.specs.declared.Verdict.{Verdict}
 use Rattle.rules.specs.declared.Verdict.the-variants.{Accepted, Refused}
 use Rattle.rules.specs.Basics.{need, all}
 use Rattle.rules.specs.Limits.{needCounts, linkPlace, homePlace, rowPlace, fileLength}
 use Rattle.rules.specs.File.{headerOf, endA, endB, linkWeight, homeNode, homeTopology, rowTopology, rowWeight}
-use Rattle.rules.specs.Isolation.{classBy, weightFits}
 use Rattle.rules.specs.Judgement.{refuse, inTurn, needMark, headerNumber, after, rises, linkNumber, homeNumber, rowWeightFits, rowNumber, records, judge}
-use Rattle.rules.proofs.Ground.Choices.{and-of, and-left, and-right, or-left, or-right, or-cases, clash, false-of, same-test, need-yes, need-no, need-le, need-ok, refuse-no, refuse-ok, then-ok, then-no, then-on, then-stop, turn-more, turn-stop, turn-done}
+use Rattle.rules.proofs.Ground.Choices.{and-of, and-left, and-right, or-left, or-right, or-cases, clash, false-of, same-test, need-yes, need-no, need-ok, refuse-no, refuse-ok, then-ok, then-no, then-on, then-stop, turn-more, turn-stop, turn-done}
 use Rattle.rules.proofs.Ground.Numbers.{all-at}
 use Rattle.recordrules.specs.Rules.{headerRule, linkRule, homeRule, rowRule, weightRule}
 use Rattle.judgement.specs.Turns.{judged, homesThenRows, rankBefore, lowBefore}

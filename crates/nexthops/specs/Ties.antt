@@ -1,11 +1,9 @@
 -- The neighbours that tie, as a word for each node and destination, and the next hops by them.
-use Prim.Native.Nat.{ℕ, zero, suc, _+_, _^_, _≤_, _<_, min}
+use Prim.Native.Nat.{ℕ, zero, suc, _+_, _≤_, _<_, min}
 use mathlib.Core.Path.{_≡_}
 use mathlib.Core.List.{List, []}
 use lib.ListN.{length, getD, set, replicate}
 use lib.Dec.{eqb}
-use lib.Bits.{bitOr}
-use lib.Count.{trailingZeros}
 use Rattle.rules.specs.Basics.{if_then_else_, upTo, flat}
 use Rattle.rules.specs.Distance.{far}
 use Rattle.words.specs.Word.{either, only, lowestIn}

@@ -8,7 +8,7 @@ use words::lowest;
 use words::only;
 ghost use mathlib.Core.Path.{_≡_};
 ghost use Prim.Native.Nat.{_+_, _*_, _≤_, _<_};
-ghost use lib.ListN.{length, set, replicate};
+ghost use lib.ListN.{length, replicate};
 ghost use Rattle.rules.specs.Basics.{upTo, flat};
 ghost use Rattle.rules.specs.Distance.{far};
 ghost use Rattle.routes.specs.Lanes.{LowRow, LowRows};

@@ -1,14 +1,14 @@
 -- The lists' lengths judged, and the published promise.
 use mathlib.Core.Path.{_≡_, sym, _∙_}
 use mathlib.Core.List.{List}
-use Prim.Native.Nat.{ℕ, _*_, _≤_}
+use Prim.Native.Nat.{ℕ}
 use lib.ListN.{length}
 use Rattle.rules.specs.declared.Network.{Network}
 use Rattle.rules.specs.declared.Verdict.{Verdict}
 use Rattle.rules.specs.declared.Verdict.the-variants.{Accepted, Refused}
 use Rattle.rules.specs.declared.ReadAnswer.the-variants as read
 use Rattle.rules.specs.Basics.{upTo, flat, laid}
-use Rattle.rules.specs.Limits.{rowWeights, homeRecords}
+use Rattle.rules.specs.Limits.{homeRecords}
 use Rattle.rules.specs.File.{headerOf, endA, endB, linkWeight, homeTopology, setOf}
 use Rattle.rules.specs.Judgement.{andThen, judge}
 use Rattle.rules.specs.Answers.{tell, readTells}

@@ -14,7 +14,6 @@ use Rattle.rules.specs.Basics.{if_then_else_, need, upTo}
 use Rattle.rules.specs.Limits.{restrictedWeight, rowWeights, homeRecords}
 use Rattle.rules.specs.File.{Set, rowStart}
 use Rattle.rules.specs.Isolation.{home, isolated, classBy, class, rowInForce}
-use Rattle.rules.specs.Entries.Lists.{lists}
 use Rattle.rules.specs.Entries.Write.{setWith}
 use Rattle.rules.specs.Sets.{AcceptedSet}
 use Rattle.routes.specs.Listed.{listed}

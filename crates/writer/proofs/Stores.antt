@@ -1,7 +1,7 @@
 -- The parts of a file, laid in turn, are the file.
-use mathlib.Core.Path.{_≡_, refl, sym, ap, _∙_}
+use mathlib.Core.Path.{_≡_, refl, ap, _∙_}
 use mathlib.Core.List.{List, [], _∷_, _++_, append-assoc}
-use Prim.Native.Nat.{ℕ, suc, _+_, _*_, _≤_, _<_}
+use Prim.Native.Nat.{ℕ, _+_, _*_, _<_}
 use native.Mathlib.Nat.{zero-mul}
 use native.Mathlib.Numerals.{add-one}
 use native.Mathlib.Omega.{arith}
@@ -13,7 +13,7 @@ use Rattle.rules.specs.File.{Set, bytes2, headerBytes, linkBytes, homeBytes, ro
 use Rattle.rules.specs.Entries.Lists.{lists}
 use Rattle.rules.specs.Entries.Write.{setWith}
 use Rattle.rules.proofs.Ground.Rows.{length-flat}
-use Rattle.rules.proofs.File.Encoded.{header-long, links-long, homes-long}
+use Rattle.rules.proofs.File.Encoded.{header-long, links-long}
 use Rattle.slices.specs.Stores.{put}
 use Rattle.slices.proofs.Stores.{put-then, Storing, storing-none, storing-done, storing-more}
 use Rattle.layout.specs.Records.{linkRecord, homeRecord, homeOf, rowHead}
