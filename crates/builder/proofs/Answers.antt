@@ -20,7 +20,7 @@ use Rattle.rules.specs.Judgement.{refuse, andThen, judge, needGraph, needCap, n
 use Rattle.rules.specs.Answers.{tell, lengthTells}
 use Rattle.rules.specs.Entries.Entry.{onAccept, Promise}
 use Rattle.rules.specs.Entries.Build.{builtFrom, buildEntry}
-use Rattle.rules.proofs.Ground.Choices.{need-yes, need-no, need-ok, refuse-no, refuse-ok, refuse-zero, then-ok, then-no, then-first, then-second}
+use Rattle.rules.proofs.Ground.Choices.{need-yes, need-no, need-ok, refuse-no, refuse-ok, refuse-zero, then-ok, then-no, then-first, then-second, then-assoc}
 use Rattle.rules.proofs.File.SetOfBytes.{net-held}
 use Rattle.rules.proofs.Entries.Determined.{length-one}
 use Rattle.checker.specs.Graph.{neighbourWords}
@@ -126,18 +126,14 @@ module _ (s nb d : List ℕ) (net : Network) (cap : ℕ) (t : Bool) (a : judge s
 
 -- ---- build
 
-then-assoc : (u v w x : Verdict) → andThen u (andThen v (andThen w x)) ≡ andThen (andThen u (andThen v w)) x
-unfolding andThen
-then-assoc Accepted Accepted w x = refl
-then-assoc Accepted (Refused number place) w x = refl
-then-assoc (Refused number place) v w x = refl
-
 module _ (s d f : List ℕ) (cap : ℕ) (r : LengthAnswer) where
   promised : Gives (andThen (andThen (judge s) (andThen (needGraph (headerOf s)) (needCap cap))) (andThen (needFit (setOf s) cap) (needRoom (fileLength (built (setOf s) cap .net)) d))) (built (setOf s) cap) d r f
       → Promise buildEntry (record { file = s; cap = cap }) d r f
   unfolding buildEntry builtFrom
   promised g =
-      let e = then-assoc (judge s) (needGraph (headerOf s)) (needCap cap) (andThen (needFit (setOf s) cap) (needRoom (fileLength (built (setOf s) cap .net)) d)) in
+      let e =
+      ap (andThen (judge s)) (then-assoc (needGraph (headerOf s)) (needCap cap) (andThen (needFit (setOf s) cap) (needRoom (fileLength (built (setOf s) cap .net)) d)))
+      ∙ then-assoc (judge s) (andThen (needGraph (headerOf s)) (needCap cap)) (andThen (needFit (setOf s) cap) (needRoom (fileLength (built (setOf s) cap .net)) d)) in
       record {
         answer = g .answer ∙ ap (λ (v : Verdict). tell v (fileLength (built (setOf s) cap .net) ∷ [])) (sym e);
         lent = g .lent ∙ ap (λ (v : Verdict). onAccept v (laid (encode (built (setOf s) cap)) d) d) (sym e);

@@ -20,7 +20,7 @@ use Rattle.rules.specs.Answers.{tell, lengthTells}
 use Rattle.rules.specs.Entries.Entry.{onAccept, Promise}
 use Rattle.rules.specs.Entries.Lists.{Lists, lists, needLists}
 use Rattle.rules.specs.Entries.Write.{setWith, writeEntry}
-use Rattle.rules.proofs.Ground.Choices.{need-ok, refuse-zero, then-ok, then-no, then-first, then-second}
+use Rattle.rules.proofs.Ground.Choices.{need-ok, refuse-zero, then-ok, then-no, then-first, then-second, then-assoc}
 use Rattle.rules.proofs.File.Encoded.{encode-long}
 use Rattle.rules.proofs.File.Records.{counts-ok}
 use Rattle.rules.proofs.File.Accepted.{length-bound}
@@ -29,11 +29,6 @@ use Rattle.slices.proofs.Stores.{put-laid}
 use Rattle.needs.specs.Numbers.{listsRule, listsVerdict}
 use Rattle.rooms.proofs.Longest.{longest-file}
 use Rattle.writer.specs.Parts.{givenVerdict, laidVerdict, Copied}
-
-then-assoc : (u v w : Verdict) → andThen u (andThen v w) ≡ andThen (andThen u v) w
-unfolding andThen
-then-assoc Accepted v w = refl
-then-assoc (Refused number place) v w = refl
 
 -- ---- before anything is laid
 

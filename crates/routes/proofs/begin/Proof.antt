@@ -18,39 +18,30 @@ Inv-loop d₀ u₀ d u = (length d ≡ length d₀) × ((v : ℕ) → v < u → 
 abbrev μ-loop : tie.MeasureT-loop
 μ-loop d₀ u₀ d u = length d₀ - u
 
--- src/lib.rt:135:5
 loop-holds : tie.Need-loop-holds Inv-loop μ-loop
 loop-holds c = (search needs, search unit-none)
 
--- src/lib.rt:136:16
 unit-requires : tie.Need-unit-requires Inv-loop μ-loop
 unit-requires c κs = search needs
 
--- src/lib.rt:136:9
 mul-t3 : tie.Need-mul-t3 Inv-loop μ-loop
 mul-t3 c = search needs
 
--- src/lib.rt:136:9
 slice-set-from-d : tie.Need-slice-set-from-d Inv-loop μ-loop
 slice-set-from-d c = search needs
 
--- src/lib.rt:137:9
 add-u : tie.Need-add-u Inv-loop μ-loop
 add-u c = search needs
 
--- src/lib.rt:135:5
 loop-less : tie.Need-loop-less Inv-loop μ-loop
 loop-less c = search needs
 
--- src/lib.rt:135:5
 loop-again : tie.Need-loop-again Inv-loop μ-loop
 loop-again c = (search needs, search unit-more)
 
--- src/lib.rt:130:1
 same-length : tie.Need-same-length Inv-loop μ-loop
 same-length c = search needs
 
--- src/lib.rt:130:1
 returns : tie.Need-returns Inv-loop μ-loop
 returns c = search begun
 

@@ -6,47 +6,36 @@ use Rattle.routes.proofs.direct.Reads as reads
 use Rattle.routes.proofs.direct.Lts as lts
 use Rattle.routes.proofs.lesser.Reads as lesser-reads
 
--- src/lib.rt:146:22
 mul-lesser : tie.Need-mul-lesser
 mul-lesser c = search needs
 
--- src/lib.rt:146:22
 mul-lesser-2 : tie.Need-mul-lesser-2
 mul-lesser-2 c = search needs
 
--- src/lib.rt:146:22
 index-1-lesser : tie.Need-index-1-lesser
 index-1-lesser c = search needs
 
--- src/lib.rt:146:22
 index-2-lesser : tie.Need-index-2-lesser
 index-2-lesser c = search needs
 
--- src/lib.rt:146:15
 lesser-requires : tie.Need-lesser-requires
 lesser-requires c κs = (search spot-low, search cost-small)
 
--- src/lib.rt:146:5
 mul-d : tie.Need-mul-d
 mul-d c = search needs
 
--- src/lib.rt:146:5
 mul-d-2 : tie.Need-mul-d-2
 mul-d-2 c = search needs
 
--- src/lib.rt:146:5
 index-1-d : tie.Need-index-1-d
 index-1-d c = search needs
 
--- src/lib.rt:146:5
 index-2-d : tie.Need-index-2-d
 index-2-d c = search needs
 
--- src/lib.rt:141:1
 same-length : tie.Need-same-length
 same-length c = search needs
 
--- src/lib.rt:141:1
 returns : tie.Need-returns
 returns c = search direct-is
 

@@ -16,31 +16,24 @@ Inv-loop a b c d₀ l₀ d l = (l ≤ length a) × (length d ≡ length d₀) ×
 abbrev μ-loop : tie.MeasureT-loop
 μ-loop a b c d₀ l₀ d l = length a - l
 
--- src/lib.rt:169:5
 loop-holds : tie.Need-loop-holds Inv-loop μ-loop
 loop-holds c = (search needs, search needs, search links-none)
 
--- src/lib.rt:170:9
 direct-link-requires : tie.Need-direct-link-requires Inv-loop μ-loop
 direct-link-requires c κs = (search wired-on, (search low-on, search needs))
 
--- src/lib.rt:171:9
 add-l : tie.Need-add-l Inv-loop μ-loop
 add-l c = search needs
 
--- src/lib.rt:169:5
 loop-less : tie.Need-loop-less Inv-loop μ-loop
 loop-less c = search needs
 
--- src/lib.rt:169:5
 loop-again : tie.Need-loop-again Inv-loop μ-loop
 loop-again c = (search needs, search needs, search links-more)
 
--- src/lib.rt:163:1
 same-length : tie.Need-same-length Inv-loop μ-loop
 same-length c = search needs
 
--- src/lib.rt:163:1
 returns : tie.Need-returns Inv-loop μ-loop
 returns c = search links-done
 

@@ -8,23 +8,18 @@ use Rattle.routes.proofs.begin.Reads as begin-reads
 use Rattle.routes.proofs.direct_links.Reads as direct-links-reads
 use Rattle.routes.proofs.settle.Reads as settle-reads
 
--- src/lib.rt:246:5
 begin-requires : tie.Need-begin-requires
 begin-requires c κs = search wired-few
 
--- src/lib.rt:247:5
 direct-links-requires : tie.Need-direct-links-requires
 direct-links-requires c κs = (search units-wired, search units-are-low)
 
--- src/lib.rt:248:5
 settle-requires : tie.Need-settle-requires
 settle-requires c κs = (search few-linked, search low-linked)
 
--- src/lib.rt:242:1
 same-length : tie.Need-same-length
 same-length c = search needs
 
--- src/lib.rt:242:1
 returns : tie.Need-returns
 returns c = search distances-made
 

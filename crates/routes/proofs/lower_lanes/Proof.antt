@@ -15,55 +15,42 @@ Inv-loop p₀ q c t₀ p t = (t ≤ 32) × (p ≡ lanes c q t p₀)
 abbrev μ-loop : tie.MeasureT-loop
 μ-loop p₀ q c t₀ p t = 32 - t
 
--- src/lib.rt:185:5
 loop-holds : tie.Need-loop-holds Inv-loop μ-loop
 loop-holds c = (search needs, search lanes-none)
 
--- src/lib.rt:186:23
 mul-lesser : tie.Need-mul-lesser Inv-loop μ-loop
 mul-lesser c = search needs
 
--- src/lib.rt:186:23
 element-copy-out-lesser : tie.Need-element-copy-out-lesser Inv-loop μ-loop
 element-copy-out-lesser c = search needs
 
--- src/lib.rt:186:33
 mul-lesser-2 : tie.Need-mul-lesser-2 Inv-loop μ-loop
 mul-lesser-2 c = search needs
 
--- src/lib.rt:186:33
 element-copy-out-lesser-2 : tie.Need-element-copy-out-lesser-2 Inv-loop μ-loop
 element-copy-out-lesser-2 c = search needs
 
--- src/lib.rt:186:29
 add-lesser : tie.Need-add-lesser Inv-loop μ-loop
 add-lesser c = search sum-fits-lt
 
--- src/lib.rt:186:16
 lesser-requires : tie.Need-lesser-requires Inv-loop μ-loop
 lesser-requires c κs = (search old-low, search sum-low)
 
--- src/lib.rt:186:9
 mul-p : tie.Need-mul-p Inv-loop μ-loop
 mul-p c = search needs
 
--- src/lib.rt:186:9
 element-write-p : tie.Need-element-write-p Inv-loop μ-loop
 element-write-p c = search needs
 
--- src/lib.rt:187:9
 add-t : tie.Need-add-t Inv-loop μ-loop
 add-t c = search needs
 
--- src/lib.rt:185:5
 loop-less : tie.Need-loop-less Inv-loop μ-loop
 loop-less c = search needs
 
--- src/lib.rt:185:5
 loop-again : tie.Need-loop-again Inv-loop μ-loop
 loop-again c = (search needs, search lanes-more)
 
--- src/lib.rt:178:1
 returns : tie.Need-returns Inv-loop μ-loop
 returns c = search lanes-done
 

@@ -16,31 +16,24 @@ Inv-loop d₀ v u₀ d u = (u ≤ length d₀) × (length d ≡ length d₀) × 
 abbrev μ-loop : tie.MeasureT-loop
 μ-loop d₀ v u₀ d u = length d₀ - u
 
--- src/lib.rt:222:5
 loop-holds : tie.Need-loop-holds Inv-loop μ-loop
 loop-holds c = (search needs, search needs, search pass-none)
 
--- src/lib.rt:223:9
 through-requires : tie.Need-through-requires Inv-loop μ-loop
 through-requires c κs = ((search needs, search needs, search needs), search pass-low)
 
--- src/lib.rt:224:9
 add-u : tie.Need-add-u Inv-loop μ-loop
 add-u c = search needs
 
--- src/lib.rt:222:5
 loop-less : tie.Need-loop-less Inv-loop μ-loop
 loop-less c = search needs
 
--- src/lib.rt:222:5
 loop-again : tie.Need-loop-again Inv-loop μ-loop
 loop-again c = (search needs, search needs, search pass-more)
 
--- src/lib.rt:216:1
 same-length : tie.Need-same-length Inv-loop μ-loop
 same-length c = search needs
 
--- src/lib.rt:216:1
 returns : tie.Need-returns Inv-loop μ-loop
 returns c = search pass-done
 

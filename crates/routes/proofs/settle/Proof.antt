@@ -16,31 +16,24 @@ Inv-loop d₀ v₀ d v = (v ≤ length d₀) × (length d ≡ length d₀) × (d
 abbrev μ-loop : tie.MeasureT-loop
 μ-loop d₀ v₀ d v = length d₀ - v
 
--- src/lib.rt:235:5
 loop-holds : tie.Need-loop-holds Inv-loop μ-loop
 loop-holds c = (search needs, search needs, search passes-none)
 
--- src/lib.rt:236:9
 pass-requires : tie.Need-pass-requires Inv-loop μ-loop
 pass-requires c κs = ((search needs, search needs), search passes-low)
 
--- src/lib.rt:237:9
 add-v : tie.Need-add-v Inv-loop μ-loop
 add-v c = search needs
 
--- src/lib.rt:235:5
 loop-less : tie.Need-loop-less Inv-loop μ-loop
 loop-less c = search needs
 
--- src/lib.rt:235:5
 loop-again : tie.Need-loop-again Inv-loop μ-loop
 loop-again c = (search needs, search needs, search passes-more)
 
--- src/lib.rt:229:1
 same-length : tie.Need-same-length Inv-loop μ-loop
 same-length c = search needs
 
--- src/lib.rt:229:1
 returns : tie.Need-returns Inv-loop μ-loop
 returns c = search passes-done
 

@@ -136,6 +136,12 @@ pub then-no : (v w : Verdict) (number place : ℕ) → v ≡ Refused number plac
 unfolding andThen
 then-no v w number place e = rw e
 
+-- verdicts in order may be grouped either way
+pub then-assoc : (u v w : Verdict) → andThen u (andThen v w) ≡ andThen (andThen u v) w
+unfolding andThen
+then-assoc Accepted v w = refl
+then-assoc (Refused number place) v w = refl
+
 -- both parts of an acceptance
 pub then-first : (v w : Verdict) → andThen v w ≡ Accepted → v ≡ Accepted
 unfolding andThen
