@@ -9,4 +9,3 @@ pub mod Report
 pub mod Entries
 pub mod Refusals
 pub mod Demands
-pub mod Examples
