@@ -20,9 +20,9 @@ use Rattle.routes.specs.Costs.{cost, rowOf, costAt, Links, Distances}
 use Rattle.routes.proofs.Exact.{costs-wired, settled-low, settled-distances}
 use Rattle.routes.proofs.ListedSets.{held-links, held-costs}
 use Rattle.nexthops.specs.Ties.{tieTable}
-use Rattle.nexthops.specs.Alternates.{Homed, RowsTo}
+use Rattle.alternates.specs.Alternates.{Homed, RowsTo}
 use Rattle.nexthops.proofs.NextHops.{tie-table}
-use Rattle.nexthops.proofs.Detours.{alternate-of}
+use Rattle.alternates.proofs.Detours.{alternate-of}
 use Rattle.engine.specs.Stages.{hopTable, Ready, AlternatesBelow, Work, Added}
 
 module _ (net : Network) (a b weights homes rows : List ℕ) (A : AcceptedSet (listed net a b weights homes rows)) where

@@ -77,7 +77,7 @@ fn topology<'a>(
 {
     measure(net, a, b, weights, homes, rows, i, c, d);
     nexthops::hop_table(a, b, c, d, w, out);
-    nexthops::alternates::fill(a, b, homes, i, d, alts);
+    alternates::fill(a, b, homes, i, d, alts);
 }
 
 // The same into out at `at`.
@@ -254,7 +254,7 @@ fn in_room<'a>(
 
 // The tables of an accepted set that is held as lists.
 // Rules out: a way over a link with both ends isolated `routes/isolated_link_usable`; v itself as the alternate for v
-// `nexthops/alternate_may_be_v`.
+// `alternates/alternate_may_be_v`.
 pub fn fill_tables<'a>(
     net: Network,
     a: &[u8],

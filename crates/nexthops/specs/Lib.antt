@@ -1,3 +1,2 @@
--- Next hops by words of tying neighbours, and alternates by flags of neighbours, as the code runs.
+-- Next hops by words of tying neighbours, as the code runs.
 pub mod Ties
-pub mod Alternates

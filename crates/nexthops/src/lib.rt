@@ -1,7 +1,5 @@
-// The next hops of one topology and the alternates of the nodes whose home it is. It promises what specs/ says, of any links and distances;
-// that this is what 01 asks of an accepted set is shown in proofs/. The neighbours that tie are the bits of a word, of which the lowest is taken.
-pub mod alternates; // alternates.rt: the alternates of the nodes whose home it is
-
+// The next hops of one topology. It promises what specs/ says, of any links and distances; that this is what 01 asks of an accepted set
+// is shown in proofs/. The neighbours that tie are the bits of a word, of which the lowest is taken.
 use rules::Network;
 use words::either;
 use words::lowest;

@@ -1,0 +1,3 @@
+-- Laws of alternates, and that they are the published ones.
+pub mod Neighbours
+pub mod Detours

@@ -1,0 +1,2 @@
+-- Alternates by flags of neighbours, as the code runs.
+pub mod Alternates
