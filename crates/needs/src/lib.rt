@@ -65,7 +65,7 @@ pub fn need_graph(net: Network) -> Verdict
 }
 
 // 11: a cap of 1 to 32 is needed.
-// Rules out: a cap of 0 accepted `a_cap_of_0_allowed`; 11 for a cap of 32.
+// Rules out: 11 for a cap of 4 `a_cap_of_4_refused`; a cap of 0 accepted.
 pub fn need_cap(cap: u8) -> Verdict
     ensures { λ r. ⌜ r ≡ needCap cap ⌝ }
 {
