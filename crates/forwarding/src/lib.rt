@@ -110,7 +110,7 @@ fn run_in(
     ensures { λ r. ⌜ Ran (now (file .entry)) start failure (runLent (now (tables .entry)) (now (trail .entry))) r (runLent (now (tables .exit)) (now (trail .exit))) ⌝ }
 {
     let long = net.tables_length();
-    tables::fill(file, net, &mut tables[..long]);
+    tablefilling::fill(file, net, &mut tables[..long]);
     travel(file, net, tables, failure, start, net.most_hops(), trail)
 }
 

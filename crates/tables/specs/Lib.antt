@@ -1,2 +1,2 @@
--- The lists between a file and its tables.
-pub mod Parts
+-- The entry's verdict.
+pub mod Verdicts

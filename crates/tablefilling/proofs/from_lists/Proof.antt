@@ -1,7 +1,7 @@
-use Rattle.tables.proofs.Laws.{tabling}
+use Rattle.tablefilling.proofs.Laws.{tabling}
 use borrow.Author.Needs.{needs}
-use Rattle.tables.proofs.from_lists.Statement.{statement}
-use Rattle.tables.proofs.from_lists.Tie as tie
+use Rattle.tablefilling.proofs.from_lists.Statement.{statement}
+use Rattle.tablefilling.proofs.from_lists.Tie as tie
 
 lists-into-requires : tie.Need-lists-into-requires
 lists-into-requires c κs = search tabling

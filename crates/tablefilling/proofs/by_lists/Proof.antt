@@ -1,7 +1,7 @@
-use Rattle.tables.proofs.Laws.{tabling}
+use Rattle.tablefilling.proofs.Laws.{tabling}
 use borrow.Author.Needs.{needs}
-use Rattle.tables.proofs.by_lists.Statement.{statement}
-use Rattle.tables.proofs.by_lists.Tie as tie
+use Rattle.tablefilling.proofs.by_lists.Statement.{statement}
+use Rattle.tablefilling.proofs.by_lists.Tie as tie
 
 fill-tables-requires : tie.Need-fill-tables-requires
 fill-tables-requires c κs = (search tabling, search needs)

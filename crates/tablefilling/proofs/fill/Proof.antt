@@ -1,7 +1,7 @@
-use Rattle.tables.proofs.Laws.{tabling}
+use Rattle.tablefilling.proofs.Laws.{tabling}
 use borrow.Author.Needs.{needs}
-use Rattle.tables.proofs.fill.Statement.{statement}
-use Rattle.tables.proofs.fill.Tie as tie
+use Rattle.tablefilling.proofs.fill.Statement.{statement}
+use Rattle.tablefilling.proofs.fill.Tie as tie
 
 ends-requires : tie.Need-ends-requires
 ends-requires c κs = search needs

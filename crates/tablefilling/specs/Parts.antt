@@ -1,16 +1,13 @@
--- Lists of the right lengths, and the entry's verdict.
+-- Lists of the right lengths, and lists that hold a set.
 use mathlib.Core.Path.{_≡_}
 use mathlib.Core.List.{List}
 use Prim.Native.Nat.{ℕ, _*_, _≤_}
-use lib.Dec.{leb}
 use lib.ListN.{length}
 use Rattle.rules.specs.declared.Network.{Network}
-use Rattle.rules.specs.declared.Verdict.{Verdict}
 use Rattle.rules.specs.declared.Verdict.the-variants.{Accepted}
-use Rattle.rules.specs.Basics.{need}
-use Rattle.rules.specs.Limits.{rowWeights, tablesLength, largest}
-use Rattle.rules.specs.File.{headerOf, setOf}
-use Rattle.rules.specs.Judgement.{refuse, andThen, check}
+use Rattle.rules.specs.Limits.{rowWeights, largest}
+use Rattle.rules.specs.File.{setOf}
+use Rattle.rules.specs.Judgement.{check}
 use Rattle.rules.specs.Entries.Lists.{Lists}
 use Rattle.rules.specs.Entries.Write.{setWith}
 
@@ -34,6 +31,3 @@ pub record Wide (d : Lists) : Type 0 where
 pub record HoldSet (s : List ℕ) (h : Network) (d : Lists) : Type 0 where
   pub checked : check s ≡ Accepted
   pub set : setWith h d ≡ setOf s
-
-unfoldable pub tablesVerdict : List ℕ → ℕ → Verdict
-tablesVerdict s room = andThen (check s) (refuse (need (leb (tablesLength (headerOf s)) room) 14 0) 0)

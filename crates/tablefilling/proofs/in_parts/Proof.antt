@@ -1,7 +1,7 @@
-use Rattle.tables.proofs.Laws.{tabling}
+use Rattle.tablefilling.proofs.Laws.{tabling}
 use borrow.Author.Needs.{needs}
-use Rattle.tables.proofs.in_parts.Statement.{statement}
-use Rattle.tables.proofs.in_parts.Tie as tie
+use Rattle.tablefilling.proofs.in_parts.Statement.{statement}
+use Rattle.tablefilling.proofs.in_parts.Tie as tie
 
 cast-m : tie.Need-cast-m
 cast-m c = search needs

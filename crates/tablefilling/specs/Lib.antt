@@ -1,0 +1,2 @@
+-- The lists between a file and its tables.
+pub mod Parts
