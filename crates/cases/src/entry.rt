@@ -7,6 +7,7 @@ use crate::sweep;
 use burnishpeg::burnishpeg_build;
 use burnishpeg::burnishpeg_check;
 use burnishpeg::burnishpeg_read;
+use phrases::show;
 use rules::Network;
 use rules::Verdict;
 use std::num::wrapping_add_usize;
@@ -25,7 +26,6 @@ use wording::asked::up_to;
 use wording::least;
 use wording::number;
 use wording::part;
-use wording::show;
 ghost use Prim.Native.Nat.{_≤_};
 
 // ---- judge FILE

@@ -25,6 +25,7 @@ mod room; // room.rt: rooms that are lent
 mod run; // run.rt: one run
 mod sweep; // sweep.rt: every single failure of a set
 
+use phrases::show;
 use rooms::file_and_one;
 use wording::NONE;
 use wording::asked::own_words;
@@ -32,7 +33,6 @@ use wording::byte;
 use wording::change;
 use wording::least;
 use wording::part;
-use wording::show;
 use wording::word;
 
 // ---- one case

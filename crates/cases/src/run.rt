@@ -1,8 +1,8 @@
 // One run of a packet, through the library's entry.
 use crate::room;
 use burnishpeg::burnishpeg_run;
+use phrases::show;
 use wording::least;
-use wording::show;
 
 // With so much room for the tables and for the trail, as far as there is. Its answer, which is written where it is to be shown.
 pub fn run(

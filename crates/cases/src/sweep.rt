@@ -2,8 +2,8 @@
 // dropped where its destination is the failed node; refused by 12 where its source is.
 use crate::file::header;
 use crate::run::run;
+use phrases::tally;
 use wording::least;
-use wording::tally;
 
 // Run number i, where there is such a run, and the tally after it.
 fn tried(set: &[u8], n: u8, kind: u8, i: usize, sum: u64) -> u64 {

@@ -1,10 +1,8 @@
-// What a case is written in, and what its answer is written in: text by its words and numbers. Nothing here knows the network: the
+// What a case is written in: text by its words and numbers. Nothing here knows the network: the
 // program `cases` does. Every function can be asked anything: what is not there is empty, 0 or NONE. So none promises more than
 // that it is safe and ends, but for the bounds that a room's parts need.
 pub mod asked; // asked.rt: what a case asks
 pub mod change; // change.rt: the changes that a case makes to its file
-pub mod show; // show.rt: what is written
-pub mod tally; // tally.rt: what a sweep counts
 
 pub use slices::byte;
 use std::num::wrapping_add_usize;

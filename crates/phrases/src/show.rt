@@ -1,11 +1,11 @@
 // What is written: phrases, numbers and lists after a case's name. An answer is one word as the library packs it: in bit 63 whether
 // it is a refusal.
-use crate::byte;
-use crate::least;
-use crate::piece;
 use libc::STDOUT_FILENO;
+use slices::byte;
 use std::num::wrapping_add_usize;
 use std::num::wrapping_sub_usize;
+use wording::least;
+use wording::piece;
 
 pub fn text(s: &[u8]) {
     io::write_all(STDOUT_FILENO, s);

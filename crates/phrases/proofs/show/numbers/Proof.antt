@@ -1,31 +1,28 @@
 use borrow.Author.Needs.{needs}
 use Prim.Native.Nat.{_-_, _≤_}
-use Rattle.wording.proofs.show.wide_list.Statement.{statement}
-use Rattle.wording.proofs.show.wide_list.Tie as tie
+use Rattle.phrases.proofs.show.numbers.Statement.{statement}
+use Rattle.phrases.proofs.show.numbers.Tie as tie
 
 abbrev Inv-loop : tie.InvT-loop
-Inv-loop title list count most i₀ i = i ≤ most
+Inv-loop title file from step mask count at₀ i₀ at i = i ≤ count
 
 abbrev μ-loop : tie.MeasureT-loop
-μ-loop title list count most i₀ i = most - i
+μ-loop title file from step mask count at₀ i₀ at i = count - i
 
 say-requires : tie.Need-say-requires Inv-loop μ-loop
 say-requires c κs = search needs
 
-least-requires : tie.Need-least-requires Inv-loop μ-loop
-least-requires c κs = search needs
-
 loop-holds : tie.Need-loop-holds Inv-loop μ-loop
 loop-holds c = search needs
 
-mul-next-wide : tie.Need-mul-next-wide Inv-loop μ-loop
-mul-next-wide c = search needs
+two-requires : tie.Need-two-requires Inv-loop μ-loop
+two-requires c κs = search needs
 
-element-copy-out-next-wide : tie.Need-element-copy-out-next-wide Inv-loop μ-loop
-element-copy-out-next-wide c = search needs
+next-requires : tie.Need-next-requires Inv-loop μ-loop
+next-requires c κs = search needs
 
-next-wide-requires : tie.Need-next-wide-requires Inv-loop μ-loop
-next-wide-requires c κs = search needs
+wrapping-add-usize-requires : tie.Need-wrapping-add-usize-requires Inv-loop μ-loop
+wrapping-add-usize-requires c κs = search needs
 
 add-i : tie.Need-add-i Inv-loop μ-loop
 add-i c = search needs
@@ -42,18 +39,17 @@ put-requires c κs = search needs
 returns : tie.Need-returns Inv-loop μ-loop
 returns c = search needs
 
-pub wide-list-spec : {M : Type 1} → statement M
-wide-list-spec =
+pub numbers-spec : {M : Type 1} → statement M
+numbers-spec =
     tie.close
     (tie.spec
     Inv-loop
     μ-loop
     say-requires
-    least-requires
     loop-holds
-    mul-next-wide
-    element-copy-out-next-wide
-    next-wide-requires
+    two-requires
+    next-requires
+    wrapping-add-usize-requires
     add-i
     loop-less
     loop-again
