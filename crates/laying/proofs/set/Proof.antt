@@ -1,7 +1,7 @@
 use borrow.Author.Needs.{needs}
-use Rattle.writer.proofs.Stores.{lays}
-use Rattle.writer.proofs.lay.set.Statement.{statement}
-use Rattle.writer.proofs.lay.set.Tie as tie
+use Rattle.laying.proofs.Stores.{lays}
+use Rattle.laying.proofs.set.Statement.{statement}
+use Rattle.laying.proofs.set.Tie as tie
 
 graph-requires : tie.Need-graph-requires
 graph-requires c κs = search needs

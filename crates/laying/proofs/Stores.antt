@@ -18,7 +18,7 @@ use Rattle.slices.specs.Stores.{put}
 use Rattle.slices.proofs.Stores.{put-then, Storing, storing-none, storing-done, storing-more}
 use Rattle.layout.specs.Records.{linkRecord, homeRecord, homeOf, rowHead}
 use Rattle.layout.proofs.Places.{product-fits, row-near}
-use Rattle.writer.specs.Parts.{linkOf, weightOf, rowOf}
+use Rattle.laying.specs.Parts.{linkOf, weightOf, rowOf}
 
 -- ---- records
 

@@ -1,7 +1,7 @@
 use borrow.Author.Needs.{needs}
-use Rattle.writer.proofs.Stores.{lays}
-use Rattle.writer.proofs.lay.backup.Statement.{statement}
-use Rattle.writer.proofs.lay.backup.Tie as tie
+use Rattle.laying.proofs.Stores.{lays}
+use Rattle.laying.proofs.backup.Statement.{statement}
+use Rattle.laying.proofs.backup.Tie as tie
 
 home-records-requires : tie.Need-home-records-requires
 home-records-requires c κs = search needs

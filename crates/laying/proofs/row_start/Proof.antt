@@ -1,7 +1,7 @@
 use borrow.Author.Needs.{needs}
-use Rattle.writer.proofs.Stores.{start-fits, start-near, row-start-is}
-use Rattle.writer.proofs.lay.row_start.Statement.{statement}
-use Rattle.writer.proofs.lay.row_start.Tie as tie
+use Rattle.laying.proofs.Stores.{start-fits, start-near, row-start-is}
+use Rattle.laying.proofs.row_start.Statement.{statement}
+use Rattle.laying.proofs.row_start.Tie as tie
 
 row-weights-requires : tie.Need-row-weights-requires
 row-weights-requires c κs = search needs

@@ -1,13 +1,11 @@
 use Prim.Native.Nat.{_-_}
 use native.Mathlib.Omega.{arith}
 use borrow.Author.Needs.{needs}
-use Rattle.rules.specs.Basics.{count}
-use Rattle.rules.specs.Sets.{at}
 use Rattle.slices.proofs.Stores.{Storing}
-use Rattle.writer.proofs.Stores.{lays}
-use Rattle.writer.proofs.lay.weights.Statement.{statement}
-use Rattle.writer.proofs.lay.weights.Tie as tie
-use Rattle.writer.specs.Parts.{weightOf}
+use Rattle.laying.proofs.Stores.{lays}
+use Rattle.laying.proofs.weights.Statement.{statement}
+use Rattle.laying.proofs.weights.Tie as tie
+use Rattle.laying.specs.Parts.{weightOf}
 
 abbrev Inv-loop : tie.InvT-loop
 Inv-loop file₀ at rows first count x₀ file x = Storing file₀ file at (weightOf rows first) x count

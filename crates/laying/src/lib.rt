@@ -1,4 +1,5 @@
-// The lists of a set, laid as the bytes of its file. A byte past the room's end is stored nowhere, so nothing here asks for room.
+// The lists of a set, laid as the bytes of its file. `set` promises the lent room with exactly the bytes of the set that the header
+// and the lists are, from its first byte on. A byte past the room's end is stored nowhere, so nothing here asks for room.
 use layout::link_place;
 use layout::record;
 use layout::row_place;
@@ -15,7 +16,7 @@ ghost use Rattle.rules.specs.Entries.Lists.{lists};
 ghost use Rattle.rules.specs.Entries.Write.{setWith};
 ghost use Rattle.slices.specs.Stores.{put};
 ghost use Rattle.layout.specs.Records.{homeOf};
-ghost use Rattle.writer.specs.Parts.{linkOf, weightOf, rowOf};
+ghost use Rattle.laying.specs.Parts.{linkOf, weightOf, rowOf};
 
 // ---- the links
 

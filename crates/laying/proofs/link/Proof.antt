@@ -1,7 +1,7 @@
 use borrow.Author.Needs.{needs}
-use Rattle.writer.proofs.Stores.{lays}
-use Rattle.writer.proofs.lay.link.Statement.{statement}
-use Rattle.writer.proofs.lay.link.Tie as tie
+use Rattle.laying.proofs.Stores.{lays}
+use Rattle.laying.proofs.link.Statement.{statement}
+use Rattle.laying.proofs.link.Tie as tie
 
 byte-requires : tie.Need-byte-requires
 byte-requires c κs = search needs

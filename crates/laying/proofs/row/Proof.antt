@@ -1,7 +1,7 @@
 use borrow.Author.Needs.{needs}
-use Rattle.writer.proofs.Stores.{lays}
-use Rattle.writer.proofs.lay.row.Statement.{statement}
-use Rattle.writer.proofs.lay.row.Tie as tie
+use Rattle.laying.proofs.Stores.{lays}
+use Rattle.laying.proofs.row.Statement.{statement}
+use Rattle.laying.proofs.row.Tie as tie
 
 row-place-requires : tie.Need-row-place-requires
 row-place-requires c κs = search needs

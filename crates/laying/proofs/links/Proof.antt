@@ -3,10 +3,10 @@ use native.Mathlib.Omega.{arith}
 use borrow.Author.Needs.{needs}
 use Rattle.rules.specs.Limits.{linkPlace}
 use Rattle.slices.proofs.Stores.{Storing}
-use Rattle.writer.proofs.Stores.{lays}
-use Rattle.writer.proofs.lay.links.Statement.{statement}
-use Rattle.writer.proofs.lay.links.Tie as tie
-use Rattle.writer.specs.Parts.{linkOf}
+use Rattle.laying.proofs.Stores.{lays}
+use Rattle.laying.proofs.links.Statement.{statement}
+use Rattle.laying.proofs.links.Tie as tie
+use Rattle.laying.specs.Parts.{linkOf}
 
 abbrev Inv-loop : tie.InvT-loop
 Inv-loop file₀ a b weights m l₀ file l = Storing file₀ file (linkPlace 0) (linkOf a b weights) l m

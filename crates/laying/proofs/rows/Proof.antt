@@ -3,10 +3,10 @@ use native.Mathlib.Omega.{arith}
 use borrow.Author.Needs.{needs}
 use Rattle.rules.specs.Limits.{rowPlace}
 use Rattle.slices.proofs.Stores.{Storing}
-use Rattle.writer.proofs.Stores.{lays}
-use Rattle.writer.proofs.lay.rows.Statement.{statement}
-use Rattle.writer.proofs.lay.rows.Tie as tie
-use Rattle.writer.specs.Parts.{rowOf}
+use Rattle.laying.proofs.Stores.{lays}
+use Rattle.laying.proofs.rows.Statement.{statement}
+use Rattle.laying.proofs.rows.Tie as tie
+use Rattle.laying.specs.Parts.{rowOf}
 
 abbrev Inv-loop : tie.InvT-loop
 Inv-loop file₀ net rows k j₀ file j = Storing file₀ file (rowPlace net 0) (rowOf net rows) j (net .k)

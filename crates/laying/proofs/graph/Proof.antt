@@ -1,7 +1,7 @@
 use borrow.Author.Needs.{needs}
-use Rattle.writer.proofs.Stores.{lays}
-use Rattle.writer.proofs.lay.graph.Statement.{statement}
-use Rattle.writer.proofs.lay.graph.Tie as tie
+use Rattle.laying.proofs.Stores.{lays}
+use Rattle.laying.proofs.graph.Statement.{statement}
+use Rattle.laying.proofs.graph.Tie as tie
 
 header-requires : tie.Need-header-requires
 header-requires c κs = search needs
