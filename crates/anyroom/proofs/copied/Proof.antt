@@ -1,7 +1,7 @@
-use Rattle.burnishpeg.proofs.Texts.{texts}
+use Rattle.anyroom.proofs.Texts.{texts}
 use borrow.Author.Needs.{needs}
-use Rattle.burnishpeg.proofs.copied.Statement.{statement}
-use Rattle.burnishpeg.proofs.copied.Tie as tie
+use Rattle.anyroom.proofs.copied.Statement.{statement}
+use Rattle.anyroom.proofs.copied.Tie as tie
 
 need-room-requires : tie.Need-need-room-requires
 need-room-requires c κs = search needs

@@ -1,7 +1,7 @@
-use Rattle.burnishpeg.proofs.Texts.{texts}
+use Rattle.anyroom.proofs.Texts.{texts}
 use borrow.Author.Needs.{needs}
-use Rattle.burnishpeg.proofs.lay.Statement.{statement}
-use Rattle.burnishpeg.proofs.lay.Tie as tie
+use Rattle.anyroom.proofs.lay.Statement.{statement}
+use Rattle.anyroom.proofs.lay.Tie as tie
 
 enum-told : tie.Need-enum-told
 enum-told c = search needs
