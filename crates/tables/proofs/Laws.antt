@@ -29,7 +29,7 @@ use Rattle.rules.proofs.File.SetOfBytes.{net-held}
 use Rattle.rules.proofs.File.Checked.{checked-set}
 use Rattle.rules.proofs.Isolation.HomesAndRows.{homes-all}
 use Rattle.rules.proofs.Forwarding.LentTables.{bytes-long}
-use Rattle.reader.specs.Reading.{rowOf, listsOf}
+use Rattle.listing.specs.Fields.{rowOf, listsOf}
 use Rattle.tables.specs.Parts.{Exact, Wide, HoldSet, tablesVerdict}
 
 -- ---- lists of exactly the right lengths hold just the set's

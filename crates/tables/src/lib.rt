@@ -3,9 +3,9 @@
 // tables are made from are local.
 use engine::fill_tables;
 use layout::header;
+use listing::lists_into;
 use needs::need_room;
 use needs::then;
-use reader::lists_into;
 use rules::LengthAnswer;
 use rules::Network;
 use rules::Verdict;

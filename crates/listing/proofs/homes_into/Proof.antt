@@ -1,7 +1,7 @@
 use borrow.Author.Needs.{needs}
-use Rattle.reader.proofs.Laying.{fields}
-use Rattle.reader.proofs.homes_into.Statement.{statement}
-use Rattle.reader.proofs.homes_into.Tie as tie
+use Rattle.listing.proofs.Laying.{fields}
+use Rattle.listing.proofs.homes_into.Statement.{statement}
+use Rattle.listing.proofs.homes_into.Tie as tie
 
 home-place-requires : tie.Need-home-place-requires
 home-place-requires c κs = search needs

@@ -1,7 +1,7 @@
 use borrow.Author.Needs.{needs}
-use Rattle.reader.proofs.Laying.{fields}
-use Rattle.reader.proofs.row_into.Statement.{statement}
-use Rattle.reader.proofs.row_into.Tie as tie
+use Rattle.listing.proofs.Laying.{fields}
+use Rattle.listing.proofs.row_into.Statement.{statement}
+use Rattle.listing.proofs.row_into.Tie as tie
 
 row-place-requires : tie.Need-row-place-requires
 row-place-requires c κs = search needs

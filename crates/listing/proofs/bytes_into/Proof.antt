@@ -1,10 +1,10 @@
 use Prim.Native.Nat.{_-_}
 use native.Mathlib.Omega.{arith}
 use borrow.Author.Needs.{needs}
-use Rattle.reader.specs.Reading.{byteAt}
-use Rattle.reader.proofs.Laying.{Laying, laying}
-use Rattle.reader.proofs.bytes_into.Statement.{statement}
-use Rattle.reader.proofs.bytes_into.Tie as tie
+use Rattle.listing.specs.Fields.{byteAt}
+use Rattle.listing.proofs.Laying.{Laying, laying}
+use Rattle.listing.proofs.bytes_into.Statement.{statement}
+use Rattle.listing.proofs.bytes_into.Tie as tie
 
 abbrev Inv-loop : tie.InvT-loop
 Inv-loop file from stride count out₀ i₀ at₀ out i at = Laying out₀ out (byteAt file from stride) from stride i count at

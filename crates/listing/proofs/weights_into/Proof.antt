@@ -1,7 +1,7 @@
 use borrow.Author.Needs.{needs}
-use Rattle.reader.proofs.Laying.{fields}
-use Rattle.reader.proofs.weights_into.Statement.{statement}
-use Rattle.reader.proofs.weights_into.Tie as tie
+use Rattle.listing.proofs.Laying.{fields}
+use Rattle.listing.proofs.weights_into.Statement.{statement}
+use Rattle.listing.proofs.weights_into.Tie as tie
 
 add-twos-into : tie.Need-add-twos-into
 add-twos-into c = search needs

@@ -1,7 +1,7 @@
 use borrow.Author.Needs.{needs}
-use Rattle.reader.proofs.Promised.{lists-are}
-use Rattle.reader.proofs.lists_into.Statement.{statement}
-use Rattle.reader.proofs.lists_into.Tie as tie
+use Rattle.listing.proofs.Laying.{lists-are}
+use Rattle.listing.proofs.lists_into.Statement.{statement}
+use Rattle.listing.proofs.lists_into.Tie as tie
 
 cast-m : tie.Need-cast-m
 cast-m c = search needs

@@ -1,7 +1,7 @@
 use borrow.Author.Needs.{needs}
-use Rattle.reader.proofs.Laying.{fields}
-use Rattle.reader.proofs.ends_a_into.Statement.{statement}
-use Rattle.reader.proofs.ends_a_into.Tie as tie
+use Rattle.listing.proofs.Laying.{fields}
+use Rattle.listing.proofs.ends_a_into.Statement.{statement}
+use Rattle.listing.proofs.ends_a_into.Tie as tie
 
 add-bytes-into : tie.Need-add-bytes-into
 add-bytes-into c = search needs

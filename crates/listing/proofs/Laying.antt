@@ -9,10 +9,11 @@ use lib.ListN.{length, getD, take, drop, set, length-set, length-append, length-
 use borrow.Rule.Slice.PartAt.{part-to-end}
 use Rattle.rules.specs.declared.Network.{Network}
 use Rattle.rules.specs.Basics.{upTo, flat, laid}
-use Rattle.rules.specs.Limits.{linkPlace, homePlace, rowPlace, rowWeights}
+use Rattle.rules.specs.Limits.{linkPlace, homePlace, rowPlace, rowWeights, homeRecords}
 use Rattle.rules.specs.File.{two, endA, endB, linkWeight, homeTopology, rowWeight}
+use Rattle.rules.specs.Entries.Lists.{lists}
 use Rattle.rules.proofs.Ground.Rows.{length-upTo, upTo-ext, length-flat, length-laid, laid-more, laid-on}
-use Rattle.reader.specs.Reading.{byteAt, twoAt, rowOf}
+use Rattle.listing.specs.Fields.{byteAt, twoAt, rowOf, listsOf}
 
 -- after i turns e is d with i entries at its front, and the next is read at `at`
 pub record Laying (d e : List ℕ) (f : ℕ → ℕ) (from stride i count at : ℕ) : Type 0 where
@@ -154,3 +155,12 @@ pub rows-done : (s : List ℕ) (h : Network) (d e : List ℕ) (k j base : ℕ) �
 rows-done s h d e k j base w l = let same : j ≡ k = omega arith in w .entries ∙ ap (λ (n : ℕ). laid (flat (rowOf s h) n) d) same
 
 pub ruleset rows-in-turn = (rows-none, rows-fit, rows-more, rows-done)
+
+-- ---- all lists
+
+pub lists-are : (s : List ℕ) (h : Network) (a b w hs rs a′ b′ w′ hs′ rs′ : List ℕ) (nodes : ℕ) → nodes ≡ homeRecords h
+    → a′ ≡ laid (upTo (endA s) (h .m)) a → b′ ≡ laid (upTo (endB s) (h .m)) b → w′ ≡ laid (upTo (linkWeight s) (h .m)) w
+    → hs′ ≡ laid (upTo (homeTopology s h) nodes) hs → rs′ ≡ laid (flat (rowOf s h) (h .k)) rs
+    → lists a′ b′ w′ hs′ rs′ ≡ listsOf s h (lists a b w hs rs)
+unfolding listsOf
+lists-are s h a b w hs rs a′ b′ w′ hs′ rs′ nodes n ea eb ew eh er = rw (ea, eb, ew, eh, er, n)

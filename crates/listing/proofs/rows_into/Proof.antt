@@ -1,9 +1,9 @@
 use Prim.Native.Nat.{_-_}
 use native.Mathlib.Omega.{arith}
 use borrow.Author.Needs.{needs}
-use Rattle.reader.proofs.Laying.{LayingRows, rows-in-turn}
-use Rattle.reader.proofs.rows_into.Statement.{statement}
-use Rattle.reader.proofs.rows_into.Tie as tie
+use Rattle.listing.proofs.Laying.{LayingRows, rows-in-turn}
+use Rattle.listing.proofs.rows_into.Statement.{statement}
+use Rattle.listing.proofs.rows_into.Tie as tie
 
 abbrev Inv-loop : tie.InvT-loop
 Inv-loop file net out₀ long k j₀ base₀ out j base = LayingRows file net out₀ out k j base
