@@ -1,21 +1,18 @@
 // The entries for C and Rust, by numbers and byte slices (include/burnishpeg.h). Each function promises what its entry does, with
 // the answer packed into one word: a refusal's number and place, or the values of an accepted call. Buffers that one call is
-// given must not overlap: that is the one thing that C has to see to.
+// given must not overlap: that is the one thing that C has to see to. The report is made in room of its own and laid into the room
+// that is lent (`anyroom`).
 use answerwords::failure_of;
 use answerwords::length_word;
 use answerwords::read_word;
 use answerwords::run_word;
 use answerwords::step_word;
 use answerwords::verdict_word;
-use needs::need_room;
+use anyroom::lay_text;
 use report::report;
-use rules::LengthAnswer;
 use rules::Network;
 use rules::Packet;
-use rules::Verdict;
 ghost use mathlib.Core.List.{[]};
-ghost use Prim.Native.Nat.{_≤_};
-ghost use lib.ListN.{length, take};
 ghost use Rattle.rules.specs.Entries.Lists.{lists};
 ghost use Rattle.rules.specs.Entries.Read.{readEntry};
 ghost use Rattle.rules.specs.Entries.Write.{writeEntry};
@@ -26,7 +23,6 @@ ghost use Rattle.rules.specs.Entries.Step.{stepEntry};
 ghost use Rattle.rules.specs.Entries.Run.{runEntry};
 ghost use Rattle.rules.specs.Entries.Report.{reportEntry};
 ghost use Rattle.answerwords.specs.Words.{failureOf, packetAt, Answers, byLength, byRead, byStep, byRun};
-ghost use Rattle.burnishpeg.specs.Laying.{Inside, Copied, Laid};
 
 // ---- the entries
 
@@ -139,47 +135,9 @@ pub extern "C" fn burnishpeg_write(
 
 // ---- the report into any room
 
-// The first so many bytes of what was made, in the room that is lent; 14 where that is too short.
-fn copied(made: &[u8], long: usize, text: &mut [u8]) -> LengthAnswer
-    requires { ⌜ long ≤ length (now made) ⌝ }
-    ensures { λ r. ⌜ Copied (take long (now (made .entry))) (now (text .entry)) r (now (text .exit)) ⌝ }
-{
-    let room = need_room(long, text.len());
-    match room {
-        Verdict::Accepted => LengthAnswer::Length(bytes::copy(&made[..long], text)),
-        Verdict::Refused { number, place } => LengthAnswer::Refused { number, place },
-    }
-}
-
-// The report that was made, in the room that is lent.
-fn lay(answer: LengthAnswer, made: &[u8], text: &mut [u8]) -> LengthAnswer
-    requires { ⌜ Inside answer (now made) ⌝ }
-    ensures { λ r. ⌜ Laid answer (now (made .entry)) (now (text .entry)) r (now (text .exit)) ⌝ }
-{
-    match answer {
-        LengthAnswer::Refused {
-            number: _,
-            place: _,
-        } => answer,
-        LengthAnswer::Length(long) => copied(made, long, text),
-    }
-}
-
-// The same of a text that has its own array.
-fn lay_text(
-    answer: LengthAnswer,
-    made: &[u8; Network::LONGEST_REPORT],
-    text: &mut [u8],
-) -> LengthAnswer
-    requires { ⌜ Inside answer (now made) ⌝ }
-    ensures { λ r. ⌜ Laid answer (now (made .entry)) (now (text .entry)) r (now (text .exit)) ⌝ }
-{
-    lay(answer, made, text)
-}
-
 // Rules out: 14 where `text` is exactly as long as the report `needs/just_enough_room_refused`; a refusal with bit 63 clear
-// `answerwords/a_refusal_that_looks_accepted`; also `answerwords/the_number_over_the_place`, `another_room_measured`,
-// `more_room_than_the_text_refused`.
+// `answerwords/a_refusal_that_looks_accepted`; also `answerwords/the_number_over_the_place`, `anyroom/another_room_measured`,
+// `anyroom/more_room_than_the_text_refused`.
 #[no_mangle]
 pub extern "C" fn burnishpeg_report(file: &[u8], text: &mut [u8]) -> u64
     ensures { λ r. ⌜ Answers reportEntry byLength (now (file .entry)) (now (text .entry)) r (now (text .exit)) ⌝ }

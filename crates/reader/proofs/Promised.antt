@@ -7,9 +7,7 @@ use Rattle.rules.specs.declared.Network.{Network}
 use Rattle.rules.specs.declared.Verdict.{Verdict}
 use Rattle.rules.specs.declared.Verdict.the-variants.{Accepted, Refused}
 use Rattle.rules.specs.declared.ReadAnswer.the-variants as read
-use Rattle.rules.specs.Basics.{upTo, flat, laid}
-use Rattle.rules.specs.Limits.{homeRecords}
-use Rattle.rules.specs.File.{headerOf, endA, endB, linkWeight, homeTopology, setOf}
+use Rattle.rules.specs.File.{headerOf, setOf}
 use Rattle.rules.specs.Judgement.{andThen, judge}
 use Rattle.rules.specs.Answers.{tell, readTells}
 use Rattle.rules.specs.Entries.Entry.{onAccept, Promise}
@@ -18,21 +16,13 @@ use Rattle.rules.specs.Entries.Read.{listsWith, readEntry}
 use Rattle.rules.proofs.Ground.Choices.{then-second}
 use Rattle.needs.specs.Numbers.{listsRule, listsVerdict}
 use Rattle.rules.proofs.Refusals.Needs.{lists-long}
-use Rattle.reader.specs.Reading.{rowOf, listsOf, readVerdict}
+use Rattle.listing.specs.Fields.{rowOf, listsOf}
+use Rattle.reader.specs.Reading.{readVerdict}
 
 pub verdict-on-is : (s : List ℕ) (h : Network) (a b weights homes rows : ℕ) (u w v : Verdict) → u ≡ judge s → w ≡ listsVerdict 14 h a b weights homes rows → v ≡ andThen u w
     → v ≡ readVerdict s h a b weights homes rows
 unfolding readVerdict
 verdict-on-is s h a b weights homes rows u w v p q e = e ∙ rw (p, q)
-
--- ---- all lists
-
-pub lists-are : (s : List ℕ) (h : Network) (a b w hs rs a′ b′ w′ hs′ rs′ : List ℕ) (nodes : ℕ) → nodes ≡ homeRecords h
-    → a′ ≡ laid (upTo (endA s) (h .m)) a → b′ ≡ laid (upTo (endB s) (h .m)) b → w′ ≡ laid (upTo (linkWeight s) (h .m)) w
-    → hs′ ≡ laid (upTo (homeTopology s h) nodes) hs → rs′ ≡ laid (flat (rowOf s h) (h .k)) rs
-    → lists a′ b′ w′ hs′ rs′ ≡ listsOf s h (lists a b w hs rs)
-unfolding listsOf
-lists-are s h a b w hs rs a′ b′ w′ hs′ rs′ nodes n ea eb ew eh er = rw (ea, eb, ew, eh, er, n)
 
 -- ---- the promise, as the two ways out ask it
 

@@ -20,7 +20,7 @@ use Rattle.rules.proofs.Ground.Rows.{prefix-long, length-upTo, length-flat}
 use Rattle.rules.proofs.File.SetOfBytes.{net-held}
 use Rattle.rules.proofs.File.Checked.{checked-set}
 use Rattle.rules.proofs.Isolation.HomesAndRows.{homes-all}
-use Rattle.reader.specs.Reading.{rowOf, listsOf}
+use Rattle.listing.specs.Fields.{rowOf, listsOf}
 use Rattle.tablefilling.specs.Parts.{Exact, Wide, HoldSet}
 
 -- ---- lists of exactly the right lengths hold just the set's

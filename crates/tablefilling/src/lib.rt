@@ -1,7 +1,7 @@
 // The tables of an accepted set's file, by lists. `fill` promises that lent room of the tables' length becomes the published tables;
 // its caller has seen to it that the file is accepted. The lists that the tables are made from are local.
 use engine::fill_tables;
-use reader::lists_into;
+use listing::lists_into;
 use rules::Network;
 ghost use mathlib.Core.Path.{_≡_};
 ghost use Prim.Native.Nat.{_*_};

@@ -1,3 +1,2 @@
 -- What the functions' proofs cite.
-pub mod Stores
 pub mod Verdicts

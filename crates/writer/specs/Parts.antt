@@ -1,32 +1,18 @@
--- The records of a file by the lists of their fields, and what a laid file answers.
+-- What is asked before a file is laid, and what a laid file answers.
 use mathlib.Core.Path.{_≡_}
-use mathlib.Core.List.{List, [], _∷_, _++_}
-use Prim.Native.Nat.{ℕ, suc, _+_}
+use mathlib.Core.List.{List, [], _∷_}
+use Prim.Native.Nat.{ℕ}
 use lib.Dec.{leb}
-use lib.ListN.{length, getD}
+use lib.ListN.{length}
 use Rattle.rules.specs.declared.Network.{Network}
 use Rattle.rules.specs.declared.Verdict.{Verdict}
 use Rattle.rules.specs.declared.LengthAnswer.{LengthAnswer}
-use Rattle.rules.specs.Basics.{need, flat, laid}
-use Rattle.rules.specs.Limits.{needCounts, rowWeights}
-use Rattle.rules.specs.File.{bytes2, rowStart}
+use Rattle.rules.specs.Basics.{need, laid}
+use Rattle.rules.specs.Limits.{needCounts}
 use Rattle.rules.specs.Judgement.{refuse, andThen, judge}
 use Rattle.rules.specs.Answers.{tell, lengthTells}
 use Rattle.rules.specs.Entries.Entry.{onAccept}
-use Rattle.layout.specs.Records.{linkRecord, rowHead}
 use Rattle.needs.specs.Numbers.{listsVerdict}
-
--- link l's record
-unfoldable pub linkOf : List ℕ → List ℕ → List ℕ → ℕ → List ℕ
-linkOf a b weights l = linkRecord (getD a l 0) (getD b l 0) (getD weights l 0)
-
--- weight x of a row whose weights stand in `rows` from entry `first` on
-unfoldable pub weightOf : List ℕ → ℕ → ℕ → List ℕ
-weightOf rows first x = bytes2 (getD rows (first + x) 0)
-
--- the row of topology j + 1
-unfoldable pub rowOf : Network → List ℕ → ℕ → List ℕ
-rowOf h rows j = rowHead (suc j) ++ flat (weightOf rows (rowStart h j)) (rowWeights h)
 
 -- counts within their limits, and lists of these lengths that are long enough
 unfoldable pub givenVerdict : Network → ℕ → ℕ → ℕ → ℕ → ℕ → Verdict

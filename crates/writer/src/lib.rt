@@ -1,10 +1,8 @@
 // The writer: from a header and five lists to the file of the set that they are. `write` promises, for any lists and any room, the
 // refusal that the reader would give for what it would write, 1 for a list that is too short, 14 for room that is too short, or the
 // file at the front of the room; a refusal leaves the room as it came. Entries past the counts are neither written nor compared.
-// The lists are laid as bytes in room of the writer's own, those bytes are judged as every file is, and only then are they copied
-// into the lent file.
-mod lay; // lay.rt: the lists as bytes
-
+// The lists are laid as bytes (`laying`) in room of the writer's own, those bytes are judged as every file is, and only then are they
+// copied into the lent file.
 use judgement::judge;
 use needs::need_lists;
 use needs::need_room;
@@ -58,7 +56,7 @@ fn laid(
     requires { ⌜ length (now room) ≡ fileLength net ⌝ }
     ensures { λ r. ⌜ Copied (encode (setWith net (lists (now (a .entry)) (now (b .entry)) (now (weights .entry)) (now (homes .entry)) (now (rows .entry))))) (now (file .entry)) r (now (file .exit)) ⌝ }
 {
-    lay::set(room, net, a, b, weights, homes, rows);
+    laying::set(room, net, a, b, weights, homes, rows);
     copied(room, file)
 }
 
@@ -83,7 +81,7 @@ fn in_own_room(
 // Writes the file of these lists into lent room.
 // Rules out: 14 for a set that breaks a rule too, which is told first `room_before_records`; 14 for a list that is too short,
 // which is 1 `short_list_is_fourteen`; also `judgement/every_home_judged_by_the_first`, `judgement/place_of_an_earlier_record`,
-// `every_row_at_the_first_place`.
+// `laying/every_row_at_the_first_place`.
 pub fn write(
     net: Network,
     a: &[u8],

@@ -1,0 +1,2 @@
+-- A text laid into any room.
+pub mod Laying

@@ -1,2 +1,0 @@
--- The report laid into any room.
-pub mod Laying

@@ -1,0 +1,2 @@
+-- What the functions' proofs cite.
+pub mod Stores

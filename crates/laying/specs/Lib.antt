@@ -1,0 +1,2 @@
+-- What is laid, by the lists that it is laid from.
+pub mod Parts

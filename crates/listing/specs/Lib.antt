@@ -1,0 +1,2 @@
+-- The fields of a file as lists.
+pub mod Fields
