@@ -23,15 +23,15 @@ use Rattle.rules.specs.Entries.Build.{builtFrom, buildEntry}
 use Rattle.rules.proofs.Ground.Choices.{need-yes, need-no, need-ok, refuse-no, refuse-ok, refuse-zero, then-ok, then-no, then-first, then-second, then-assoc}
 use Rattle.rules.proofs.File.SetOfBytes.{net-held}
 use Rattle.rules.proofs.Entries.Determined.{length-one}
+use Rattle.topologyrules.proofs.Same.{WordsOf}
 use Rattle.checker.specs.Graph.{neighbourWords}
-use Rattle.checker.proofs.Same.{WordsOf}
 use Rattle.checker.proofs.Graph.{words-of, accepted-few}
-use Rattle.builder.specs.Fit.{allSpared, Placed}
+use Rattle.firstfit.specs.Fit.{allSpared, Placed}
+use Rattle.firstfit.proofs.Fitted.{all-spared-same, passed-cap, all-placed, placed-homes}
 use Rattle.slices.specs.Stores.{put}
 use Rattle.filling.specs.Filled.{filledFile}
 use Rattle.builder.specs.Answer.{Gives}
 use Rattle.filling.proofs.Written.{written-is}
-use Rattle.builder.proofs.Fitted.{all-spared-same, passed-cap, all-placed, placed-homes}
 
 -- ---- the two ways of an answer
 

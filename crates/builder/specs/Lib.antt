@@ -1,3 +1,2 @@
--- The builder as it runs. proofs/ has the laws that it is 01's.
-pub mod Fit
+-- What the builder answers as it runs. proofs/ has the laws that it is 01's.
 pub mod Answer

@@ -1,12 +1,12 @@
-// The builder: a set for a graph. Nodes go in number order, each to the first topology from 1 that admits it; a topology's
-// isolated nodes are kept as a word. `build` promises 01's answer for any bytes, cap and lent file: refusals 1 to 6, 13, 11, 9,
-// 10 and 14, or the set's bytes at the front of the file and their length. Nothing is stored before everything is accepted.
-use checker::backbone;
-use checker::connected;
-use checker::enter;
+// The builder: a set for a graph. The graph's neighbour words are gathered from its bytes, first fit over them gives each node
+// its home (`firstfit`), and the set is filled in from these. `build` promises 01's answer for any bytes, cap and lent file:
+// refusals 1 to 6, 13, 11, 9, 10 and 14, or the set's bytes at the front of the file and their length. Nothing is stored before
+// everything is accepted.
 use checker::neighbour_words;
-use checker::topology_number;
 use filling::put_set;
+use firstfit::all_spared;
+use firstfit::first_fit;
+use firstfit::highest;
 use judgement::judge;
 use layout::header;
 use needs::need_cap;
@@ -16,111 +16,16 @@ use needs::then;
 use rules::LengthAnswer;
 use rules::Network;
 use rules::Verdict;
-use slices::byte;
-use words::adding;
-use words::only;
 ghost use mathlib.Core.Path.{_≡_};
-ghost use Prim.Native.Nat.{_-_, _<_, _≤_, max};
-ghost use lib.ListN.{length, getD, replicate};
+ghost use Prim.Native.Nat.{_≤_};
+ghost use lib.ListN.{length, replicate};
 ghost use Rattle.rules.specs.declared.Verdict.the-variants.{Accepted};
 ghost use Rattle.rules.specs.File.{headerOf};
-ghost use Rattle.rules.specs.Building.{highest};
 ghost use Rattle.rules.specs.Judgement.{andThen, judge, needGraph, needCap};
 ghost use Rattle.rules.specs.Entries.Entry.{Promise};
 ghost use Rattle.rules.specs.Entries.Build.{buildEntry};
 ghost use Rattle.checker.specs.Graph.{neighbourWords};
-ghost use Rattle.builder.specs.Fit.{sparedBy, allSpared, wordAdmits, Placed};
 ghost use Rattle.builder.specs.Answer.{FilledIn, FittedIn, BuiltIn};
-
-// ---- 9
-
-// Without node v the others are connected.
-fn spared(nb: &[u32], n: u8, v: u8) -> bool
-    requires { ⌜ (1 ≤ n) × (n ≤ 32) ⌝ }
-    requires { ⌜ v < 32 ⌝ }
-    ensures { λ r. ⌜ r ≡ sparedBy (now (nb .entry)) n v ⌝ }
-{
-    connected(nb, backbone(n, only(v)))
-}
-
-fn all_spared(nb: &[u32], n: u8) -> bool
-    requires { ⌜ (1 ≤ n) × (n ≤ 32) ⌝ }
-    ensures { λ r. ⌜ r ≡ allSpared (now (nb .entry)) n n ⌝ }
-{
-    let mut v: u8 = 0;
-    while v < n {
-        let ok = spared(nb, n, v);
-        if ok {
-            v += 1;
-        } else {
-            return false;
-        }
-    }
-    true
-}
-
-// ---- first fit
-
-// With v added, topology i's backbone and two-link rules hold.
-fn admits(nb: &[u32], n: u8, isos: &[u32; Network::MOST_TOPOLOGIES], i: u8, v: u8) -> bool
-    requires { ⌜ (1 ≤ n) × (n ≤ 32) ⌝ }
-    requires { ⌜ (1 ≤ i) × (i ≤ 32) ⌝ }
-    requires { ⌜ v < 32 ⌝ }
-    ensures { λ r. ⌜ r ≡ wordAdmits (now (nb .entry)) n (getD (now (isos .entry)) (i - 1) 0) v ⌝ }
-{
-    let at = (i - 1) as usize;
-    let before = isos[at];
-    let iso = adding(before, v);
-    topology_number(nb, n, iso) == 0
-}
-
-// Each node goes to the first topology that admits it. The count of nodes placed: fewer than all where the cap is passed.
-fn first_fit(nb: &[u32], n: u8, cap: u8, homes: &mut [u8]) -> u8
-    requires { ⌜ (1 ≤ n) × (n ≤ 32) ⌝ }
-    requires { ⌜ cap ≤ 32 ⌝ }
-    requires { ⌜ now homes ≡ replicate n 0 ⌝ }
-    ensures { λ r. ⌜ Placed (now (nb .entry)) n cap (now (homes .exit)) r ⌝ }
-{
-    let mut isos = [0u32; Network::MOST_TOPOLOGIES];
-    let mut v: u8 = 0;
-    'build: while v < n {
-        let mut i: u8 = 1;
-        let home = loop {
-            if i > cap {
-                break 'build;
-            }
-            let ok = admits(nb, n, &isos, i, v);
-            if ok {
-                break i;
-            }
-            i += 1;
-        };
-        let at = v as usize;
-        homes[at] = home;
-        enter(&mut isos, home - 1, v);
-        v += 1;
-    }
-    v
-}
-
-fn larger(a: u8, b: u8) -> u8
-    ensures { λ r. ⌜ r ≡ max a b ⌝ }
-{
-    if a < b { b } else { a }
-}
-
-// The highest topology used.
-fn highest(homes: &[u8]) -> u8
-    ensures { λ r. ⌜ r ≡ highest (now (homes .entry)) (length (now (homes .entry))) ⌝ }
-{
-    let mut top: u8 = 0;
-    let mut v: usize = 0;
-    while v < homes.len() {
-        top = larger(top, byte(homes, v));
-        v += 1;
-    }
-    top
-}
 
 // ---- the answer
 
@@ -211,9 +116,9 @@ fn input_verdict(graph: &[u8], cap: u8) -> Verdict
 }
 
 // The entry: a set for a graph with at most so many topologies, into a lent file.
-// Rules out: a node put into the last topology, where an earlier one admits it `search_from_the_last_topology`; 10 where a node
-// other than the first holds the others together, which is 9 `only_the_first_node_removed`; also `one_topology_tried`,
-// `room_for_the_graph_alone`, `rules_for_the_new_node_only`.
+// Rules out: a node put into the last topology, where an earlier one admits it `firstfit/search_from_the_last_topology`; 10 where
+// a node other than the first holds the others together, which is 9 `firstfit/only_the_first_node_removed`; also
+// `one_topology_tried`, `room_for_the_graph_alone`, `firstfit/rules_for_the_new_node_only`.
 pub fn build(graph: &[u8], cap: u8, file: &mut [u8]) -> LengthAnswer
     ensures { λ r. ⌜ Promise buildEntry (record { file = now (graph .entry); cap = cap }) (now (file .entry)) r (now (file .exit)) ⌝ }
 {

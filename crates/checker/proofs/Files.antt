@@ -20,9 +20,10 @@ use Rattle.rules.specs.Entries.Check.{checkEntry}
 use Rattle.rules.proofs.Ground.Choices.{need-ok, refuse-no, refuse-ok, refuse-zero, then-on, then-stop, turn-none, turn-more, turn-stop, turn-done}
 use Rattle.words.specs.Word.{put}
 use Rattle.words.proofs.Members.{word-more}
-use Rattle.checker.specs.Graph.{entered, linked, neighbourWords, homeIs, Ends}
-use Rattle.checker.specs.Topology.{numberBy}
-use Rattle.checker.proofs.Same.{number-same}
+use Rattle.topologyrules.specs.Entered.{entered}
+use Rattle.topologyrules.specs.Topology.{numberBy}
+use Rattle.topologyrules.proofs.Same.{number-same}
+use Rattle.checker.specs.Graph.{linked, neighbourWords, homeIs, Ends}
 use Rattle.checker.proofs.Graph.{words-of, isolated-word-is, accepted-ends, accepted-few, accepted-some}
 
 -- ---- neighbour_words

@@ -22,8 +22,9 @@ use Rattle.rules.proofs.Isolation.HomesAndRows.{homes-all}
 use Rattle.rules.proofs.Isolation.Removal.{homeless-at}
 use Rattle.words.specs.Word.{has, adding}
 use Rattle.words.proofs.Members.{has-none, has-adding, word-ext}
-use Rattle.checker.specs.Graph.{entered, linked, neighbourWords, homeIs, Ends}
-use Rattle.checker.proofs.Same.{WordsOf}
+use Rattle.topologyrules.specs.Entered.{entered}
+use Rattle.topologyrules.proofs.Same.{WordsOf}
+use Rattle.checker.specs.Graph.{linked, neighbourWords, homeIs, Ends}
 
 -- ---- who is in the words
 

@@ -1,6 +1,3 @@
--- The words reached (`Reached`), that the words' rules are 01's (`Same`), and what the functions' proofs cite (`Laws`).
-pub mod Reached
-pub mod Same
+-- That the words gathered are those of the set that a file holds (`Graph`), and what the functions' proofs cite (`Files`).
 pub mod Graph
-pub mod Laws
 pub mod Files

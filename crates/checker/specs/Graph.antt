@@ -3,14 +3,10 @@ use mathlib.Core.List.{List}
 use mathlib.Core.Bool.{Bool}
 use Prim.Native.Nat.{ℕ, zero, suc, _<_}
 use lib.Dec.{eqb}
-use lib.ListN.{getD, set, replicate}
+use lib.ListN.{replicate}
 use Rattle.rules.specs.declared.Network.{Network}
 use Rattle.rules.specs.File.{endA, endB, homeTopology}
-use Rattle.words.specs.Word.{adding}
-
--- y comes into x's word
-unfoldable pub entered : List ℕ → ℕ → ℕ → List ℕ
-entered nb x y = set nb x (adding (getD nb x 0) y)
+use Rattle.topologyrules.specs.Entered.{entered}
 
 -- the words once the first links are entered at both their ends
 unfoldable pub linked : (ℕ → ℕ) → (ℕ → ℕ) → List ℕ → ℕ → List ℕ

@@ -1,3 +1,2 @@
--- The check as it runs, over words. proofs/ has the laws that it is 01's.
+-- The words that the check gathers from a file's bytes. proofs/ has the laws that they are those of its set.
 pub mod Graph
-pub mod Topology
