@@ -15,6 +15,7 @@ use Rattle.rules.specs.Judgement.{refuse, needRoom}
 use Rattle.rules.specs.Answers.{accepted, tell, lengthTells}
 use Rattle.rules.specs.Entries.Entry.{onAccept}
 use Rattle.rules.proofs.Ground.Rows.{prefix-long}
+use Rattle.rules.proofs.Entries.Determined.{length-one}
 use Rattle.rules.proofs.Refusals.Needs.{room-long}
 use Rattle.anyroom.specs.Laying.{Inside, Copied, Laid}
 
@@ -66,5 +67,16 @@ laid-given a r made text after bytes e C =
       refused = λ n p d. absurd (no-length n p bytes (sym d ∙ e));
       given = λ b d. subst (λ (x : ℕ). Copied (take x made) text r after) (same-length a bytes b e d) C;
     }
+
+-- the promise leaves no room: two results that it allows coincide
+pub one-laying : (a r r′ : LengthAnswer) (made text after after′ : List ℕ) → Laid a made text r after → Laid a made text r′ after′ → (r ≡ r′) × (after ≡ after′)
+one-laying (long.Length b) r r′ made text after after′ p q =
+    let P = p .given b refl in
+    let Q = q .given b refl in
+    (length-one r r′ (P .answer ∙ sym (Q .answer)), P .lent ∙ sym (Q .lent))
+one-laying (long.Refused n k) r r′ made text after after′ p q =
+    let P = p .refused n k refl in
+    let Q = q .refused n k refl in
+    (P .0 ∙ sym (Q .0), P .1 ∙ sym (Q .1))
 
 pub ruleset texts = (prefix-long, copy-fits, copied-refused, copied-whole, laid-inside, laid-refused, laid-given)
