@@ -71,14 +71,15 @@ module _ (s : List ℕ) where
   unfolding valueOf
   value-more i v d r e f g = rw add-one (g ∙ ap₂ more e f)
 
-  pub in-none : (n : ℕ) → n ≡ length s → n ≡ 0 → Unclear ≡ numberIn s
-  unfolding numberIn
-  in-none n e h = sym (if-yes (eqb (length s) 0) Unclear (numberBy (valueOf s (length s))) (eq-eqb (length s) 0 (omega arith)))
+  pub value-end : (i n v : ℕ) (r : Number) → n ≡ length s → i ≤ n → n ≤ i → v ≡ valueOf s i → r ≡ numberBy v → r ≡ numberBy (valueOf s (length s))
+  value-end i n v r e l g d q = q ∙ ap numberBy (d ∙ ap (valueOf s) (omega arith))
 
-  pub in-given : (i n v : ℕ) (r : Number) → n ≡ length s → (n ≡ 0 → ⊥) → i ≤ n → n ≤ i → v ≡ valueOf s i → r ≡ numberBy v → r ≡ numberIn s
+  pub in-none : length s ≡ 0 → Unclear ≡ numberIn s
   unfolding numberIn
-  in-given i n v r e h l g d q =
-      q ∙ ap numberBy (d ∙ ap (valueOf s) (omega arith))
-      ∙ sym (if-no (eqb (length s) 0) Unclear (numberBy (valueOf s (length s))) (ne-eqb (length s) 0 (λ z. h (omega arith))))
+  in-none e = sym (if-yes (eqb (length s) 0) Unclear (numberBy (valueOf s (length s))) (eq-eqb (length s) 0 e))
 
-pub ruleset numbers = (more-full, more-low, more-high, more-over, more-next, by-none, by-given, value-none, value-more, in-none, in-given)
+  pub in-given : (r : Number) → 0 < length s → r ≡ numberBy (valueOf s (length s)) → r ≡ numberIn s
+  unfolding numberIn
+  in-given r h q = q ∙ sym (if-no (eqb (length s) 0) Unclear (numberBy (valueOf s (length s))) (ne-eqb (length s) 0 (λ z. omega arith)))
+
+pub ruleset numbers = (more-full, more-low, more-high, more-over, more-next, by-none, by-given, value-none, value-more, value-end)

@@ -1,5 +1,5 @@
 -- A number from 0 to 255 that is written in decimal, as the programs write them, is read back as itself.
-use mathlib.Core.Path.{_≡_, refl, sym}
+use mathlib.Core.Path.{_≡_, refl, sym, ap, _∙_}
 use mathlib.Core.Bool.{Bool, true, not, _&&_}
 use Prim.Native.Nat.{ℕ, _≤_}
 use native.Mathlib.Omega.{arith}
@@ -11,7 +11,7 @@ use Rattle.rules.specs.Report.{digits, decimal}
 use Rattle.rules.proofs.Ground.Choices.{and-left, and-right}
 use Rattle.rules.proofs.Ground.Numbers.{all-at}
 use Rattle.console.specs.declared.number.Number.the-variants.{Given}
-use Rattle.console.specs.Numbers.{more, valueOf, numberIn}
+use Rattle.console.specs.Numbers.{more, valueOf, numberBy, numberIn}
 use Rattle.console.proofs.Laws.{by-given, in-given}
 
 -- the number that is read of x as it is written
@@ -35,4 +35,4 @@ read-back x h =
     let e = all-at readsBack 256 each x (omega arith) in
     let some = eqb-false (length (decimal x)) 0 (not-true (eqb (length (decimal x)) 0) (and-left (written x) (eqb (back x) x) e)) in
     let is = eqb-true (back x) x (and-right (written x) (eqb (back x) x) e) in
-    sym (in-given (decimal x) (length (decimal x)) (length (decimal x)) x (Given x) refl some (omega arith) (omega arith) (sym is) (by-given x h))
+    sym (in-given (decimal x) (Given x) (omega arith) (by-given x h ∙ ap numberBy (sym is)))

@@ -25,7 +25,8 @@ use Rattle.rules.proofs.File.SetOfBytes.{net-held}
 use Rattle.rules.proofs.File.Checked.{checked-file, checked-set}
 use Rattle.rules.proofs.Forwarding.Runs.{starts}
 use Rattle.rules.proofs.Forwarding.LentTables.{Agree, lent-agree, step-same, run-same}
-use Rattle.onehop.specs.Hop.{Judged, on, tablesAt, stepAt}
+use Rattle.linkstate.specs.Links.{Judged, on}
+use Rattle.onehop.specs.Hop.{tablesAt, stepAt}
 use Rattle.travel.specs.Trip.{runAt, journeyOf, RunsAs}
 use Rattle.travel.proofs.Trips.{run-delivered, run-dropped, run-moved}
 use Rattle.detections.specs.Detection.{Ready, Pair, Counted, seenBy}

@@ -1,6 +1,6 @@
 // What a detecting node sees: its next hop in topology 0, what it does where the link to it is down, and the hops from there on.
 // `detect` promises all that the report's line on a node and a destination holds, of an accepted file by its own tables.
-use onehop::link_between;
+use linkstate::link_between;
 use onehop::take;
 use rules::Failure;
 use rules::Kind;

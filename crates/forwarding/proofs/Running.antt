@@ -30,7 +30,7 @@ use Rattle.rules.proofs.File.SetOfBytes.{net-held}
 use Rattle.rules.proofs.File.Checked.{checked-file, checked-set}
 use Rattle.rules.proofs.Forwarding.Runs.{Within}
 use Rattle.rules.proofs.Forwarding.LentTables.{bytes-long, lent-agree, run-same}
-use Rattle.onehop.specs.Hop.{Judged, on}
+use Rattle.linkstate.specs.Links.{Judged, on}
 use Rattle.travel.specs.Trip.{runAt, journeyOf, RunsAs}
 use Rattle.forwarding.specs.Runs.{runInput, runLent, runVerdict, Ready, Ran}
 

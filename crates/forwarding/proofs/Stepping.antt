@@ -19,7 +19,8 @@ use Rattle.rules.specs.Answers.{tell, stepTells}
 use Rattle.rules.specs.Entries.Entry.{onAccept, Promise}
 use Rattle.rules.specs.Entries.Step.{lookupsOf, stepOf, stepEntry}
 use Rattle.rules.proofs.Ground.Choices.{then-first, then-on, then-stop}
-use Rattle.onehop.specs.Hop.{Judged, stepAt, lookupAt}
+use Rattle.linkstate.specs.Links.{Judged}
+use Rattle.onehop.specs.Hop.{stepAt, lookupAt}
 use Rattle.forwarding.specs.Steps.{stepInput, stepRest, stepVerdict}
 
 -- the judge accepted the file

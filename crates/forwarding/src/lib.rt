@@ -24,7 +24,7 @@ ghost use Rattle.rules.specs.File.{headerOf};
 ghost use Rattle.rules.specs.Entries.Entry.{Promise};
 ghost use Rattle.rules.specs.Entries.Step.{stepEntry};
 ghost use Rattle.rules.specs.Entries.Run.{runEntry};
-ghost use Rattle.onehop.specs.Hop.{Judged};
+ghost use Rattle.linkstate.specs.Links.{Judged};
 ghost use Rattle.forwarding.specs.Steps.{stepInput, stepRest, stepVerdict};
 ghost use Rattle.forwarding.specs.Runs.{runInput, runLent, runVerdict, Ready, Ran};
 

@@ -18,7 +18,8 @@ use Rattle.rules.specs.File.{headerOf, setOf}
 use Rattle.rules.specs.Isolation.{neighbours, home}
 use Rattle.rules.specs.Forwarding.{entryPlace, lentTables, packet, moveOrDrop, changeTo, blocked, toward, step, alternateNumber, changeNumber, towardNumber, lookupNumber}
 use Rattle.rules.proofs.Ground.Choices.{if-yes, if-no, need-yes, need-no}
-use Rattle.onehop.specs.Hop.{on, tablesAt, kindBy, onwardNumber, stepAt, lookupAt}
+use Rattle.linkstate.specs.Links.{on}
+use Rattle.onehop.specs.Hop.{tablesAt, kindBy, onwardNumber, stepAt, lookupAt}
 
 -- ---- the tables
 

@@ -1,9 +1,9 @@
 // One hop of a packet by value, in the order of 01's rule: `take` promises the step that the rule makes of it, and `lookup_number`
 // 15 where an entry that this step looks up is no neighbour. `net` is the header of `file`, which the judge accepts where the
-// contract says `Judged`, and `tables` are read as they are, whatever they hold.
-use layout::end_a;
-use layout::end_b;
+// contract says `Judged`, and `tables` are read as they are, whatever they hold. Which hops are up is `linkstate`'s to say.
 use layout::home_topology;
+use linkstate::is_up;
+use linkstate::neighbours;
 use rules::Failure;
 use rules::Kind;
 use rules::Network;
@@ -11,68 +11,16 @@ use rules::Packet;
 use rules::Step;
 use slices::byte;
 ghost use mathlib.Core.Path.{_≡_};
-ghost use Prim.Native.Nat.{_<_, _+_};
+ghost use Prim.Native.Nat.{_<_};
 ghost use lib.ListN.{getD};
-ghost use mathlib.Core.Bool.{not, _&&_, _||_};
-ghost use lib.Dec.{eqb};
 ghost use Rattle.rules.specs.File.{headerOf, setOf};
-ghost use Rattle.rules.specs.Isolation.{linkBetween, neighbours, home};
+ghost use Rattle.rules.specs.Isolation.{neighbours, home};
 ghost use Rattle.rules.specs.Basics.{need};
 ghost use Rattle.rules.specs.Forwarding.{entryPlace, moveOrDrop, changeTo, blocked, toward, alternateNumber, changeNumber};
-ghost use Rattle.onehop.specs.Hop.{Judged, joinsAt, on, tablesAt, kindBy, onwardNumber, stepAt, lookupAt};
+ghost use Rattle.linkstate.specs.Links.{Judged, on};
+ghost use Rattle.onehop.specs.Hop.{tablesAt, kindBy, onwardNumber, stepAt, lookupAt};
 
-// ---- the graph
-
-// a is u and b is w.
-fn pair(a: u8, b: u8, u: u8, w: u8) -> bool
-    ensures { λ r. ⌜ r ≡ (eqb a u && eqb b w) ⌝ }
-{
-    if a == u {
-        return b == w;
-    }
-    false
-}
-
-// Link l joins u and w, one way round or the other.
-fn joins(file: &[u8], l: usize, u: u8, w: u8) -> bool
-    requires { ⌜ l < 65536 ⌝ }
-    ensures { λ r. ⌜ r ≡ joinsAt (now (file .entry)) u w l ⌝ }
-{
-    let a = end_a(file, l);
-    let b = end_b(file, l);
-    let forth = pair(a, b, u, w);
-    if forth {
-        return true;
-    }
-    pair(a, b, w, u)
-}
-
-// The number of the link between u and w, or m.
-// Rules out: m, no link, for one that is asked for from its end b `the_failed_link_crossed_from_its_other_end`; another link of
-// u.
-pub fn link_between(file: &[u8], net: Network, u: u8, w: u8) -> u16
-    requires { ⌜ net ≡ headerOf (now file) ⌝ }
-    ensures { λ r. ⌜ r ≡ linkBetween (setOf (now (file .entry))) u w ⌝ }
-{
-    let m = net.m;
-    let mut l: u16 = 0;
-    while l < m {
-        let found = joins(file, l as usize, u, w);
-        if found {
-            return l;
-        }
-        l += 1;
-    }
-    m
-}
-
-// Rules out: no, asked from a link's end b `the_failed_link_crossed_from_its_other_end`; yes for two nodes that no link joins.
-pub fn neighbours(file: &[u8], net: Network, u: u8, w: u8) -> bool
-    requires { ⌜ net ≡ headerOf (now file) ⌝ }
-    ensures { λ r. ⌜ r ≡ neighbours (setOf (now (file .entry))) u w ⌝ }
-{
-    link_between(file, net, u, w) < net.m
-}
+// ---- homes and tables
 
 // Node v's home; 0 where it is no node, or the file is a graph alone.
 // Rules out: another node's home; anything but 0 for a number that is no node.
@@ -87,46 +35,6 @@ pub fn home(file: &[u8], net: Network, v: u8) -> u8
     }
     0
 }
-
-// ---- what is down
-
-// The link between u and w is not l, which is down. A link's own record tells: no other joins the same two nodes, so the rest
-// are looked through only where l is no link of the file.
-fn link_up(file: &[u8], net: Network, l: u16, u: u8, w: u8) -> bool
-    requires { ⌜ Judged (now file) net ⌝ }
-    ensures { λ r. ⌜ r ≡ not (eqb (linkBetween (setOf (now (file .entry))) u w) l) ⌝ }
-{
-    if l < net.m {
-        let joined = joins(file, l as usize, u, w);
-        return !joined;
-    }
-    link_between(file, net, u, w) != l
-}
-
-// The hop from u to w is up.
-// Rules out: yes for the hop over the failed link `the_failed_link_up_at_its_ends`; yes for a hop to the failed node.
-pub fn is_up(file: &[u8], net: Network, failure: Failure, u: u8, w: u8) -> bool
-    requires { ⌜ Judged (now file) net ⌝ }
-    ensures { λ r. ⌜ r ≡ on (now (file .entry)) failure u w ⌝ }
-{
-    match failure {
-        Failure::Nothing => true,
-        Failure::Link(l) => link_up(file, net, l, u, w),
-        Failure::Node(v) => neither(v, u, w),
-    }
-}
-
-// v is neither u nor w.
-fn neither(v: u8, u: u8, w: u8) -> bool
-    ensures { λ r. ⌜ r ≡ not (eqb v u || eqb v w) ⌝ }
-{
-    if v == u {
-        return false;
-    }
-    v != w
-}
-
-// ---- the tables
 
 // The entry of table i for node u and node t.
 fn entry(tables: &[u8], net: Network, i: usize, u: u8, t: u8) -> u8
@@ -291,8 +199,8 @@ fn onward_number(file: &[u8], net: Network, tables: &[u8], failure: Failure, p: 
 }
 
 // 15 where an entry that the hop looks up is no neighbour, else 0.
-// Rules out: 15 for a neighbour, seen from the link's end b `the_failed_link_crossed_from_its_other_end`; 0 where an entry that
-// is looked up is no neighbour.
+// Rules out: 15 for a neighbour, seen from the link's end b `linkstate/the_failed_link_crossed_from_its_other_end`; 0 where an
+// entry that is looked up is no neighbour.
 pub fn lookup_number(file: &[u8], net: Network, tables: &[u8], failure: Failure, p: Packet) -> u8
     requires { ⌜ Judged (now file) net ⌝ }
     ensures { λ r. ⌜ r ≡ lookupAt (now (file .entry)) (now (tables .entry)) failure p ⌝ }

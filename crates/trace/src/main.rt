@@ -94,7 +94,7 @@ fn run_link(file: &[u8], q: Question, a: u8, b: u8)
     requires { ⌜ judge (now file) ≡ Accepted ⌝ }
 {
     let net = layout::header(file);
-    let l = onehop::link_between(file, net, a, b);
+    let l = linkstate::link_between(file, net, a, b);
     if l < net.m {
         run(file, q, Failure::Link(l));
         return;

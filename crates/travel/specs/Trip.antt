@@ -9,7 +9,8 @@ use Rattle.rules.specs.declared.Journey.{Journey}
 use Rattle.rules.specs.Basics.{laid}
 use Rattle.rules.specs.File.{setOf}
 use Rattle.rules.specs.Forwarding.{Run, hops, trail, run}
-use Rattle.onehop.specs.Hop.{on, tablesAt}
+use Rattle.linkstate.specs.Links.{on}
+use Rattle.onehop.specs.Hop.{tablesAt}
 
 unfoldable pub runAt : List ℕ → List ℕ → Failure → ℕ → Packet → Run
 runAt s tables f most p = run (setOf s) (tablesAt s tables) (on s f) most p

@@ -16,7 +16,7 @@ ghost use Prim.Native.Nat.{_+_, _<_};
 ghost use lib.ListN.{length};
 ghost use Rattle.rules.specs.Forwarding.{firstKind};
 ghost use Rattle.slices.specs.Stores.{put};
-ghost use Rattle.onehop.specs.Hop.{Judged};
+ghost use Rattle.linkstate.specs.Links.{Judged};
 ghost use Rattle.travel.specs.Trip.{RunsAs, Begun};
 
 // The kind of the first change: the one there was, or else this hop's.

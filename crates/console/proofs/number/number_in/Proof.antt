@@ -1,7 +1,8 @@
-use Rattle.console.proofs.Laws.{numbers}
+use Rattle.console.proofs.Laws.{in-none, in-given, numbers}
 use borrow.Author.Needs.{needs}
 use mathlib.Core.Path.{_≡_}
 use Prim.Native.Nat.{_-_, _≤_}
+use native.Mathlib.Omega.{arith}
 use Rattle.console.specs.Numbers.{valueOf}
 use Rattle.console.proofs.number.number_in.Statement.{statement}
 use Rattle.console.proofs.number.number_in.Tie as tie
@@ -13,7 +14,7 @@ abbrev μ-loop : tie.MeasureT-loop
 μ-loop text long value₀ i₀ value i = long - i
 
 returns : tie.Need-returns Inv-loop μ-loop
-returns c = search numbers
+returns c = in-none _ (omega arith)
 
 loop-holds : tie.Need-loop-holds Inv-loop μ-loop
 loop-holds c = (search needs, search numbers)
@@ -37,7 +38,7 @@ given-requires : tie.Need-given-requires Inv-loop μ-loop
 given-requires c κs = search needs
 
 returns-2 : tie.Need-returns-2 Inv-loop μ-loop
-returns-2 c = search numbers
+returns-2 c = in-given _ _ (omega arith) (search numbers)
 
 pub number-in-spec : {M : Type 1} → statement M
 number-in-spec =

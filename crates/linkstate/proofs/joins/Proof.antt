@@ -1,7 +1,7 @@
-use Rattle.onehop.proofs.Graph.{graph}
+use Rattle.linkstate.proofs.Graph.{graph}
 use borrow.Author.Needs.{needs}
-use Rattle.onehop.proofs.joins.Statement.{statement}
-use Rattle.onehop.proofs.joins.Tie as tie
+use Rattle.linkstate.proofs.joins.Statement.{statement}
+use Rattle.linkstate.proofs.joins.Tie as tie
 
 end-a-requires : tie.Need-end-a-requires
 end-a-requires c κs = search needs

@@ -1,7 +1,7 @@
-use Rattle.onehop.proofs.Graph.{graph}
+use Rattle.linkstate.proofs.Graph.{graph}
 use borrow.Author.Needs.{needs}
-use Rattle.onehop.proofs.neighbours.Statement.{statement}
-use Rattle.onehop.proofs.neighbours.Tie as tie
+use Rattle.linkstate.proofs.neighbours.Statement.{statement}
+use Rattle.linkstate.proofs.neighbours.Tie as tie
 
 link-between-requires : tie.Need-link-between-requires
 link-between-requires c κs = search needs

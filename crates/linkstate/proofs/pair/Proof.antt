@@ -1,6 +1,6 @@
-use Rattle.onehop.proofs.Graph.{graph}
-use Rattle.onehop.proofs.pair.Statement.{statement}
-use Rattle.onehop.proofs.pair.Tie as tie
+use Rattle.linkstate.proofs.Graph.{graph}
+use Rattle.linkstate.proofs.pair.Statement.{statement}
+use Rattle.linkstate.proofs.pair.Tie as tie
 
 returns : tie.Need-returns
 returns c = search graph

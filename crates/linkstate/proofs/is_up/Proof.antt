@@ -1,7 +1,7 @@
-use Rattle.onehop.proofs.Graph.{graph}
+use Rattle.linkstate.proofs.Graph.{graph}
 use borrow.Author.Needs.{needs}
-use Rattle.onehop.proofs.is_up.Statement.{statement}
-use Rattle.onehop.proofs.is_up.Tie as tie
+use Rattle.linkstate.proofs.is_up.Statement.{statement}
+use Rattle.linkstate.proofs.is_up.Tie as tie
 
 enum-told : tie.Need-enum-told
 enum-told c = search needs

@@ -1,27 +1,25 @@
--- The graph of a file's set, read off the bytes: which link joins two nodes, a node's home, which hops are up.
+-- The graph of a file's set, read off the bytes: which link joins two nodes, which hops are up.
 use mathlib.Core.Path.{_≡_, refl, sym, ap, ap₂, subst, _∙_}
 use mathlib.Core.Bool.{Bool, true, false, not, _&&_, _||_}
 use mathlib.Core.List.{List}
 use Prim.Native.Nat.{ℕ, _+_, _≤_, _<_}
 use native.Mathlib.Omega.{arith}
 use lib.Dec.{eqb, ltb}
-use lib.ListN.{List·getD-eq-default}
 use borrow.Author.Tests.{eq-eqb, ne-eqb, eqb-true, eqb-false, lt-ltb}
 use Rattle.rules.specs.declared.Network.{Network}
 use Rattle.rules.specs.declared.Failure.{Failure}
 use Rattle.rules.specs.declared.Failure.the-variants.{Nothing, Link, Node}
 use Rattle.rules.specs.Basics.{lowest}
-use Rattle.rules.specs.Limits.{homeRecords}
-use Rattle.rules.specs.File.{headerOf, setOf, endA, endB, homeTopology}
-use Rattle.rules.specs.Isolation.{joins, linkBetween, neighbours, home}
+use Rattle.rules.specs.File.{headerOf, setOf, endA, endB}
+use Rattle.rules.specs.Isolation.{joins, linkBetween, neighbours}
 use Rattle.rules.specs.Forwarding.{faultOf, up}
 use Rattle.rules.proofs.Ground.Choices.{same-test}
 use Rattle.rules.proofs.Ground.Numbers.{lowest-none, lowest-ext, lowest-one}
-use Rattle.rules.proofs.Ground.Rows.{length-upTo, getD-upTo}
+use Rattle.rules.proofs.Ground.Rows.{getD-upTo}
 use Rattle.rules.proofs.File.SetOfBytes.{net-held}
 use Rattle.rules.proofs.File.Accepted.{judged}
 use Rattle.rules.proofs.Isolation.Links.{Ends, joins-ends, ends-join, link-ends, link-is}
-use Rattle.onehop.specs.Hop.{Judged, joinsAt, on}
+use Rattle.linkstate.specs.Links.{Judged, joinsAt, on}
 
 -- ---- tests
 
@@ -89,20 +87,6 @@ module _ (s : List ℕ) where
   unfolding neighbours
   near-is u w l h n e = ap₂ ltb e (ap (λ (k : Network). k .m) (n ∙ sym (net-held s)))
 
-  -- ---- homes
-
-  pub home-is : (v x c : ℕ) (h : Network) → h ≡ headerOf s → c ≡ homeRecords h → v < c → x ≡ homeTopology s h v → x ≡ home (setOf s) v
-  unfolding home setOf
-  home-is v x c h n e g d =
-      let r : v < homeRecords (headerOf s) = subst (λ (k : Network). v < homeRecords k) n (rw (← e) g) in
-      d ∙ ap (λ (k : Network). homeTopology s k v) n ∙ sym (getD-upTo (homeTopology s (headerOf s)) (homeRecords (headerOf s)) v 0 r)
-
-  pub home-none : (v c : ℕ) (h : Network) → h ≡ headerOf s → c ≡ homeRecords h → c ≤ v → 0 ≡ home (setOf s) v
-  unfolding home setOf
-  home-none v c h n e g =
-      let r : homeRecords (headerOf s) ≤ v = subst (λ (k : Network). homeRecords k ≤ v) n (rw (← e) g) in
-      sym (List·getD-eq-default (setOf s .homes) 0 (omega (arith, length-upTo (homeTopology s (headerOf s)) (homeRecords (headerOf s)))))
-
   -- ---- what is up
 
   pub up-nothing : (f : Failure) (u w : ℕ) → f ≡ Nothing → true ≡ on s f u w
@@ -139,4 +123,4 @@ module _ (s : List ℕ) where
   unfolding up faultOf
   up-node f u w v t e d = rw e d
 
-pub ruleset graph = (pair-yes, pair-no, neither-first, neither-second, joins-forth, joins-back, sought-none, sought-more, sought-found, sought-out, near-is, home-is, home-none, up-nothing, link-told, link-same, up-link, up-node)
+pub ruleset graph = (pair-yes, pair-no, neither-first, neither-second, joins-forth, joins-back, sought-none, sought-more, sought-found, sought-out, near-is, up-nothing, link-told, link-same, up-link, up-node)

@@ -1,8 +1,8 @@
 use borrow.Author.Needs.{needs}
 use Prim.Native.Nat.{_-_}
-use Rattle.onehop.proofs.Graph.{Sought, graph}
-use Rattle.onehop.proofs.link_between.Statement.{statement}
-use Rattle.onehop.proofs.link_between.Tie as tie
+use Rattle.linkstate.proofs.Graph.{Sought, graph}
+use Rattle.linkstate.proofs.link_between.Statement.{statement}
+use Rattle.linkstate.proofs.link_between.Tie as tie
 
 abbrev Inv-loop : tie.InvT-loop
 Inv-loop file u w m l₀ l = Sought file u w m l

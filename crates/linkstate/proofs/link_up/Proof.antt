@@ -1,7 +1,7 @@
-use Rattle.onehop.proofs.Graph.{graph}
+use Rattle.linkstate.proofs.Graph.{graph}
 use borrow.Author.Needs.{needs}
-use Rattle.onehop.proofs.link_up.Statement.{statement}
-use Rattle.onehop.proofs.link_up.Tie as tie
+use Rattle.linkstate.proofs.link_up.Statement.{statement}
+use Rattle.linkstate.proofs.link_up.Tie as tie
 
 joins-requires : tie.Need-joins-requires
 joins-requires c κs = search needs
