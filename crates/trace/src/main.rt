@@ -1,21 +1,19 @@
 // The trace: a set from standard input, and a question as arguments: what is down, a source and a destination. One line on standard
 // output for each hop of the packet, seen from the node that makes it, and a last line that says how the run ended; or the refusal.
-mod question; // question.rt: what is asked
-mod show; // show.rt: the lines
-mod word; // word.rt: the words among the arguments
-
 use console::refused;
 use libc::STDIN_FILENO;
 use libc::STDOUT_FILENO;
-use question::Asked;
-use question::Down;
-use question::Question;
 use rules::Failure;
 use rules::Journey;
 use rules::Packet;
 use rules::RunAnswer;
 use rules::Step;
 use rules::Verdict;
+use tracing::question;
+use tracing::question::Asked;
+use tracing::question::Down;
+use tracing::question::Question;
+use tracing::show;
 ghost use mathlib.Core.Path.{_≡_};
 ghost use Rattle.rules.specs.declared.Verdict.the-variants.{Accepted};
 ghost use Rattle.rules.specs.Judgement.{judge};

@@ -1,7 +1,7 @@
 use borrow.Author.Needs.{needs}
 use Prim.Native.Nat.{_-_, _≤_}
-use Rattle.trace.proofs.word.same.Statement.{statement}
-use Rattle.trace.proofs.word.same.Tie as tie
+use Rattle.tracing.proofs.word.same.Statement.{statement}
+use Rattle.tracing.proofs.word.same.Tie as tie
 
 abbrev Inv-loop : tie.InvT-loop
 Inv-loop text word long i₀ i = i ≤ long
