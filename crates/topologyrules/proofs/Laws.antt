@@ -1,131 +1,223 @@
 -- What the functions' proofs cite.
-use mathlib.Core.Path.{_≡_, refl, sym, ap, _∙_}
+use mathlib.Core.Path.{_≡_, refl, sym, ap, ap₂, _∙_}
 use mathlib.Core.Logic.{_⊎_, inl, inr}
-use mathlib.Core.Bool.{Bool, true, false, not, _&&_, _||_, true≢false}
+use mathlib.Core.Bool.{Bool, true, false, not, _&&_, _||_, and-false, true≢false}
 use mathlib.Core.List.{List}
 use Prim.Native.Nat.{ℕ, _+_, _-_, _^_, _≤_, _<_}
-use native.Mathlib.Numerals.{add-one}
 use native.Mathlib.Omega.{arith}
 use lib.Count.{ones}
-use lib.Dec.{eqb, leb}
+use lib.Dec.{eqb, ltb, leb}
 use lib.ListN.{getD, set}
-use borrow.Author.Tests.{eqb-true, eq-eqb, ne-eqb, not-true}
+use borrow.Author.Tests.{eqb-true, eq-eqb, ne-eqb, ltb-true, lt-ltb, le-leb, lt-leb, not-true}
 use Rattle.rules.specs.Basics.{need, all}
 use Rattle.rules.specs.Sets.{Walk}
 use Rattle.rules.proofs.Ground.Choices.{and-of, and-left, and-right, or-left, or-right, or-cases, clash, false-of}
-use Rattle.rules.proofs.Ground.Numbers.{all-at, count-lt, count-all}
-use Rattle.words.specs.Word.{has, only, both, either, minus, adding, firsts, lowestIn}
-use Rattle.words.proofs.Members.{has-none, has-both, has-either, has-minus, has-adding, has-one, has-bound, either-fits, adding-fits, only-fits, minus-fits}
+use Rattle.rules.proofs.Ground.Numbers.{all-at, all-of, count-lt}
+use Rattle.words.specs.Word.{has, only, both, either, minus, adding, removing, firsts, lowestIn}
+use Rattle.words.proofs.Members.{has-none, has-both, has-either, has-minus, has-removing, has-one, has-first, has-bound, both-fits, either-fits, removing-fits, only-fits, minus-fits}
 use Rattle.words.proofs.Tally.{ones-count, lowest-there}
 use Rattle.topologyrules.specs.Entered.{entered}
 use Rattle.topologyrules.specs.Topology.{backboneWord, normal, reachedWord, connectedBy, servedBy, allServed, numberBy}
 use Rattle.topologyrules.proofs.Reached.{reached-one, reached-is}
 use Rattle.topologyrules.proofs.Same.{both-low}
 
+-- what has a node less has a one less
+fewer-ones : (a b v : ℕ) → a < 2 ^ 32 → b < 2 ^ 32 → v < 32 → ((x : ℕ) → has a x ≡ true → has b x ≡ true) → has a v ≡ false → has b v ≡ true → ones a < ones b
+fewer-ones a b v fa fb l h out there = rw (ones-count 32 a fa, ones-count 32 b fb) (count-lt (has a) (has b) 32 v (λ x lx e. h x e) l out there)
+
 -- ---- reach
-pub record Growing (nb : List ℕ) (bb root w d : ℕ) : Type 0 where
-  pub fits : w < 2 ^ 32
-  pub fits-done : d < 2 ^ 32
-  pub begun : has w root ≡ true
-  pub inside : (x : ℕ) → has w x ≡ true → has bb x ≡ true
-  pub sound : (x : ℕ) → has w x ≡ true → Walk (normal nb bb) root x
-  pub spread : (y x : ℕ) → has d y ≡ true → normal nb bb y x ≡ true → has w x ≡ true
+
+-- the nodes of the backbone that are not left are joined to the root, and those that do not wait have been looked from
+pub record Growing (nb : List ℕ) (bb root left waiting : ℕ) : Type 0 where
+  pub fits : left < 2 ^ 32
+  pub fits-waiting : waiting < 2 ^ 32
+  pub inside : (x : ℕ) → has left x ≡ true → has bb x ≡ true
+  pub begun : has left root ≡ false
+  pub waits : (x : ℕ) → has waiting x ≡ true → (has bb x ≡ true) × (has left x ≡ false)
+  pub sound : (x : ℕ) → has bb x ≡ true → has left x ≡ false → Walk (normal nb bb) root x
+  pub spread : (y x : ℕ) → has bb y ≡ true → has left y ≡ false → has waiting y ≡ false → normal nb bb y x ≡ true → has left x ≡ false
 
 pub root-low : (nb : List ℕ) (bb root : ℕ) → bb < 2 ^ 32 → has bb root ≡ true → root < 32
 root-low nb bb root R e = has-bound 32 bb root R e
 
-pub grow-start : (nb : List ℕ) (bb root w : ℕ) → bb < 2 ^ 32 → has bb root ≡ true → w ≡ only root → Growing nb bb root w 0
-grow-start nb bb root w R i e =
+pub grow-start : (nb : List ℕ) (bb root left waiting : ℕ) → bb < 2 ^ 32 → has bb root ≡ true → left ≡ removing bb root → waiting ≡ only root → Growing nb bb root left waiting
+grow-start nb bb root left waiting R i el ew =
     record {
-      fits = rw e (only-fits root (root-low nb bb root R i));
-      fits-done = omega arith;
-      begun = at root ∙ eq-eqb root root refl;
-      inside = λ x q. rw (eqb-true x root (sym (at x) ∙ q)) i;
-      sound = λ x q. rw (eqb-true x root (sym (at x) ∙ q)) Walk.stay;
-      spread = λ y x q n. absurd (clash (has 0 y) q (has-none y));
+      fits = few;
+      fits-waiting = rw ew (only-fits root low);
+      inside = λ x q. and-left (has bb x) (not (eqb x root)) (sym (at x (has-bound 32 left x few q)) ∙ q);
+      begun = start;
+      waits = λ x q. let e = eqb-true x root (sym (at-waiting x) ∙ q) in (rw e i, rw e start);
+      sound = λ x b o. rw (is-root x b o) Walk.stay;
+      spread = λ y x b o w n. absurd (clash (has waiting y) (at-waiting y ∙ eq-eqb y root (is-root y b o)) w);
     }
   where
-    at : (x : ℕ) → has w x ≡ eqb x root
-    at x = ap (λ (v : ℕ). has v x) e ∙ has-one root x
+    low : root < 32
+    low = root-low nb bb root R i
 
-module _ (nb : List ℕ) (bb root w d left v : ℕ) (G : Growing nb bb root w d) (el : left ≡ minus w d) (ne : left ≡ 0 → ⊥) (ev : v ≡ lowestIn left) where
-  found : (v < 32) × (has left v ≡ true)
-  found = lowest-there left v (rw el (minus-fits w d (G .fits))) ne ev
+    few : left < 2 ^ 32
+    few = rw el (removing-fits bb root R)
 
-  pub left-low : v < 32
-  left-low = found .0
+    at : (x : ℕ) → x < 32 → has left x ≡ (has bb x && not (eqb x root))
+    at x l = ap (λ (w : ℕ). has w x) el ∙ has-removing bb root x low l
 
-  left-is : (has w v && not (has d v)) ≡ true
-  left-is = sym (has-minus w d v (G .fits-done) left-low) ∙ rw (← el) (found .1)
+    at-waiting : (x : ℕ) → has waiting x ≡ eqb x root
+    at-waiting x = ap (λ (w : ℕ). has w x) ew ∙ has-one root x
 
-  in-w : has w v ≡ true
-  in-w = and-left (has w v) (not (has d v)) left-is
+    start : has left root ≡ false
+    start = at root low ∙ rw (i, eq-eqb root root refl)
 
-  out-d : has d v ≡ false
-  out-d = not-true (has d v) (and-right (has w v) (not (has d v)) left-is)
+    pick : (x : ℕ) (t : Bool) → eqb x root ≡ t → has bb x ≡ true → (has bb x && not (eqb x root)) ≡ false → x ≡ root
+    pick x true e b o = eqb-true x root e
+    pick x false e b o = absurd (clash (has bb x && not (eqb x root)) (rw (b, e)) o)
 
-  pub grow-less : (d′ : ℕ) → d′ ≡ adding d v → 32 - ones d′ < 32 - ones d
-  grow-less d′ e =
-      let f = adding-fits d v (G .fits-done) left-low in
-      let c = count-lt (has d) (has (adding d v)) 32 v (λ x l q. has-adding d v x ∙ or-left (has d x) (eqb x v) q) left-low out-d (has-adding d v v ∙ or-right (has d v) (eqb v v) (eq-eqb v v refl)) in
-      let a = ones-count 32 d (G .fits-done) in
-      let b = ones-count 32 (adding d v) f in
-      let m = count-all (has (adding d v)) 32 in
-      rw e (omega arith)
+    is-root : (x : ℕ) → has bb x ≡ true → has left x ≡ false → x ≡ root
+    is-root x b o = pick x (eqb x root) refl b (sym (at x (has-bound 32 bb x R b)) ∙ o)
 
-  pub grow-more : (y near w′ d′ : ℕ) → bb < 2 ^ 32 → y ≡ getD nb v 0 → near ≡ both y bb → w′ ≡ either w near → d′ ≡ adding d v → Growing nb bb root w′ d′
-  grow-more y near w′ d′ R ey en ew ed =
-      record {
-        fits = rw ew (either-fits w near (G .fits) (rw en (both-low y bb R)));
-        fits-done = rw ed (adding-fits d v (G .fits-done) left-low);
-        begun = keep root (G .begun);
-        inside = λ x q. pick x (λ p. G .inside x p) (λ p. and-right (has y x) (has bb x) p) (or-cases (has w x) (has y x && has bb x) (sym (at x) ∙ q));
-        sound = λ x q. from x (or-cases (has w x) (has y x && has bb x) (sym (at x) ∙ q));
-        spread = λ u x q n. onto u x n (or-cases (has d u) (eqb u v) (sym (at-d u) ∙ q));
-      }
+module _ (nb : List ℕ) (bb root left waiting v : ℕ) (G : Growing nb bb root left waiting) (ne : waiting ≡ 0 → ⊥) (ev : v ≡ lowestIn waiting) where
+  found-it : (v < 32) × (has waiting v ≡ true)
+  found-it = lowest-there waiting v (G .fits-waiting) ne ev
+
+  pub waiting-low : v < 32
+  waiting-low = found-it .0
+
+  not-left : has left v ≡ false
+  not-left = G .waits v (found-it .1) .1
+
+  module _ (y found left′ rest waiting′ : ℕ) (ey : y ≡ getD nb v 0) (ef : found ≡ both y left) (el : left′ ≡ minus left found)
+      (er : rest ≡ removing waiting v) (ew : waiting′ ≡ either rest found) where
+    found-fits : found < 2 ^ 32
+    found-fits = rw ef (both-low y left (G .fits))
+
+    left-fits : left′ < 2 ^ 32
+    left-fits = rw el (minus-fits left found (G .fits))
+
+    waiting-fits : waiting′ < 2 ^ 32
+    waiting-fits = rw ew (either-fits rest found (rw er (removing-fits waiting v (G .fits-waiting))) found-fits)
+
+    at : (x : ℕ) → x < 32 → has left′ x ≡ (has left x && not (has y x && has left x))
+    at x l = ap (λ (w : ℕ). has w x) el ∙ has-minus left found x found-fits l ∙ ap (λ (t : Bool). has left x && not t) (ap (λ (w : ℕ). has w x) ef ∙ has-both y left x)
+
+    at-waiting : (x : ℕ) → x < 32 → has waiting′ x ≡ ((has waiting x && not (eqb x v)) || (has y x && has left x))
+    at-waiting x l = rw (ew, er, ef) (has-either (removing waiting v) (both y left) x ∙ ap₂ _||_ (has-removing waiting v x waiting-low l) (has-both y left x))
+
+    -- what is not left stays so
+    kept : (x : ℕ) → x < 32 → has left x ≡ false → has left′ x ≡ false
+    kept x l o = at x l ∙ rw o
+
+    low-in : (x : ℕ) → has waiting′ x ≡ true → x < 32
+    low-in x q = has-bound 32 waiting′ x waiting-fits q
+
+    came : (x : ℕ) → has waiting′ x ≡ true → ((has waiting x && not (eqb x v)) ≡ true) ⊎ ((has y x && has left x) ≡ true)
+    came x q = or-cases (has waiting x && not (eqb x v)) (has y x && has left x) (sym (at-waiting x (low-in x q)) ∙ q)
+
+    was-left : (x : ℕ) → has left′ x ≡ true → has left x ≡ true
+    was-left x q = and-left (has left x) (not (has y x && has left x)) (sym (at x (has-bound 32 left′ x left-fits q)) ∙ q)
+
+    pub grow-less : ones (either left′ waiting′) < ones (either left waiting)
+    grow-less =
+        fewer-ones (either left′ waiting′) (either left waiting) v (either-fits left′ waiting′ left-fits waiting-fits) (either-fits left waiting (G .fits) (G .fits-waiting)) waiting-low
+        (λ x q. has-either left waiting x ∙ among x (or-cases (has left′ x) (has waiting′ x) (sym (has-either left′ waiting′ x) ∙ q)))
+        (has-either left′ waiting′ v ∙ rw (kept v waiting-low not-left) (at-waiting v waiting-low ∙ rw (eq-eqb v v refl, not-left, found-it .1) (and-false (has y v))))
+        (has-either left waiting v ∙ or-right (has left v) (has waiting v) (found-it .1))
+      where
+        among : (x : ℕ) → (has left′ x ≡ true) ⊎ (has waiting′ x ≡ true) → (has left x || has waiting x) ≡ true
+        among x (inl q) = or-left (has left x) (has waiting x) (was-left x q)
+        among x (inr q) = pick (came x q)
+          where
+            pick : ((has waiting x && not (eqb x v)) ≡ true) ⊎ ((has y x && has left x) ≡ true) → (has left x || has waiting x) ≡ true
+            pick (inl p) = or-right (has left x) (has waiting x) (and-left (has waiting x) (not (eqb x v)) p)
+            pick (inr p) = or-left (has left x) (has waiting x) (and-right (has y x) (has left x) p)
+
+    pub grow-more : bb < 2 ^ 32 → has bb root ≡ true → Growing nb bb root left′ waiting′
+    grow-more R i =
+        record {
+          fits = left-fits;
+          fits-waiting = waiting-fits;
+          inside = λ x q. G .inside x (was-left x q);
+          begun = kept root (root-low nb bb root R i) (G .begun);
+          waits = λ x q. stands x (low-in x q) (came x q);
+          sound = λ x b o. walk x b o (has left x) refl;
+          spread = λ u x b o w n. onto u x b o w n (has left u) refl (eqb u v) refl;
+        }
+      where
+        low : (x : ℕ) → has bb x ≡ true → x < 32
+        low x b = has-bound 32 bb x R b
+
+        stands : (x : ℕ) → x < 32 → ((has waiting x && not (eqb x v)) ≡ true) ⊎ ((has y x && has left x) ≡ true) → (has bb x ≡ true) × (has left′ x ≡ false)
+        stands x l (inl p) = let w = G .waits x (and-left (has waiting x) (not (eqb x v)) p) in (w .0, kept x l (w .1))
+        stands x l (inr p) = (G .inside x (and-right (has y x) (has left x) p), at x l ∙ rw (p, and-right (has y x) (has left x) p))
+
+        -- what left has lost is a neighbour of v
+        lost : (x : ℕ) → x < 32 → has left x ≡ true → has left′ x ≡ false → has y x ≡ true
+        lost x l q o = go (has y x) refl
+          where
+            go : (t : Bool) → has y x ≡ t → has y x ≡ true
+            go true e = e
+            go false e = absurd (clash (has left′ x) (at x l ∙ rw (q, e)) o)
+
+        walk : (x : ℕ) → has bb x ≡ true → has left′ x ≡ false → (t : Bool) → has left x ≡ t → Walk (normal nb bb) root x
+        walk x b o false q = G .sound x b q
+        walk x b o true q =
+            let w = G .waits v (found-it .1) in
+            Walk.go (G .sound v (w .0) (w .1))
+            (and-of (has bb v) (has bb x && has (getD nb v 0) x) (w .0) (and-of (has bb x) (has (getD nb v 0) x) b (rw (← ey) (lost x (low x b) q o))))
+
+        far : (u x : ℕ) → normal nb bb u x ≡ true → has bb x && has (getD nb u 0) x ≡ true
+        far u x n = and-right (has bb u) (has bb x && has (getD nb u 0) x) n
+
+        onto : (u x : ℕ) → has bb u ≡ true → has left′ u ≡ false → has waiting′ u ≡ false → normal nb bb u x ≡ true → (s : Bool) → has left u ≡ s → (t : Bool) → eqb u v ≡ t → has left′ x ≡ false
+        onto u x b o w n true q t e =
+            absurd (clash (has waiting′ u) (at-waiting u (low u b) ∙ or-right (has waiting u && not (eqb u v)) (has y u && has left u) (and-of (has y u) (has left u) (lost u (low u b) q o) q)) w)
+        onto u x b o w n false q true e =
+            let f : has bb x && has (getD nb v 0) x ≡ true = rw (← eqb-true u v e) (far u x n) in
+            let z : has y x ≡ true = rw ey (and-right (has bb x) (has (getD nb v 0) x) f) in
+            at x (low x (and-left (has bb x) (has (getD nb v 0) x) f)) ∙ gone (has left x) (has y x) z
+          where
+            gone : (p r : Bool) → r ≡ true → (p && not (r && p)) ≡ false
+            gone true true z = refl
+            gone false true z = refl
+            gone p false z = absurd (true≢false (sym z))
+        onto u x b o w n false q false e =
+            kept x (low x (and-left (has bb x) (has (getD nb u 0) x) (far u x n))) (G .spread u x b q (still (has waiting u) refl) n)
+          where
+            still : (t : Bool) → has waiting u ≡ t → has waiting u ≡ false
+            still false p = p
+            still true p = absurd (clash (has waiting′ u) (at-waiting u (low u b) ∙ rw (p, e)) w)
+
+module _ (nb : List ℕ) (bb root left waiting : ℕ) (G : Growing nb bb root left waiting) (R : bb < 2 ^ 32) (i : has bb root ≡ true) where
+  -- the word is the whole backbone
+  pub grow-whole : left ≡ 0 → bb ≡ reachedWord nb bb root
+  grow-whole z =
+      reached-one nb bb root bb (reachedWord nb bb root)
+      (record { fits = R; begun = i; sound = λ x e. G .sound x e (rw z (has-none x)); closed = λ y x p n. and-left (has bb x) (has (getD nb y 0) x) (and-right (has bb y) (has bb x && has (getD nb y 0) x) n) })
+      (reached-is nb bb root R i)
+
+  -- the word grows no longer
+  pub grow-done : (w : ℕ) → waiting ≡ 0 → w ≡ minus bb left → w ≡ reachedWord nb bb root
+  grow-done w z e =
+      reached-one nb bb root w (reachedWord nb bb root)
+      (record { fits = few; begun = there root i (G .begun); sound = λ x q. let p = of x q in G .sound x (p .0) (p .1); closed = λ y x q n. onward y x (of y q) n })
+      (reached-is nb bb root R i)
     where
-      at : (x : ℕ) → has w′ x ≡ (has w x || (has y x && has bb x))
-      at x = rw (ew, en) (has-either w (both y bb) x ∙ ap (λ (t : Bool). has w x || t) (has-both y bb x))
+      few : w < 2 ^ 32
+      few = rw e (minus-fits bb left R)
 
-      at-d : (x : ℕ) → has d′ x ≡ (has d x || eqb x v)
-      at-d x = rw ed (has-adding d v x)
+      at : (x : ℕ) → x < 32 → has w x ≡ (has bb x && not (has left x))
+      at x l = ap (λ (t : ℕ). has t x) e ∙ has-minus bb left x (G .fits) l
 
-      keep : (x : ℕ) → has w x ≡ true → has w′ x ≡ true
-      keep x q = at x ∙ or-left (has w x) (has y x && has bb x) q
+      there : (x : ℕ) → has bb x ≡ true → has left x ≡ false → has w x ≡ true
+      there x b o = at x (has-bound 32 bb x R b) ∙ rw (b, o)
 
-      pick : (x : ℕ) → (has w x ≡ true → has bb x ≡ true) → ((has y x && has bb x) ≡ true → has bb x ≡ true) → (has w x ≡ true) ⊎ ((has y x && has bb x) ≡ true) → has bb x ≡ true
-      pick x f g (inl p) = f p
-      pick x f g (inr p) = g p
+      of : (x : ℕ) → has w x ≡ true → (has bb x ≡ true) × (has left x ≡ false)
+      of x q =
+          let p = sym (at x (has-bound 32 w x few q)) ∙ q in
+          (and-left (has bb x) (not (has left x)) p, not-true (has left x) (and-right (has bb x) (not (has left x)) p))
 
-      link : (x : ℕ) → (has y x && has bb x) ≡ true → normal nb bb v x ≡ true
-      link x p =
-          and-of (has bb v) (has bb x && has (getD nb v 0) x) (G .inside v in-w)
-          (and-of (has bb x) (has (getD nb v 0) x) (and-right (has y x) (has bb x) p) (rw (← ey) (and-left (has y x) (has bb x) p)))
-
-      from : (x : ℕ) → (has w x ≡ true) ⊎ ((has y x && has bb x) ≡ true) → Walk (normal nb bb) root x
-      from x (inl p) = G .sound x p
-      from x (inr p) = Walk.go (G .sound v in-w) (link x p)
-
-      onto : (u x : ℕ) → normal nb bb u x ≡ true → (has d u ≡ true) ⊎ (eqb u v ≡ true) → has w′ x ≡ true
-      onto u x n (inl p) = keep x (G .spread u x p n)
-      onto u x n (inr p) =
-          let q = eqb-true u v p in
-          let n′ : normal nb bb v x ≡ true = rw q at n in
-          let r = and-right (has bb v) (has bb x && has (getD nb v 0) x) n′ in
-          at x ∙ or-right (has w x) (has y x && has bb x)
-          (and-of (has y x) (has bb x) (rw ey (and-right (has bb x) (has (getD nb v 0) x) r)) (and-left (has bb x) (has (getD nb v 0) x) r))
-
-pub grow-done : (nb : List ℕ) (bb root w d left : ℕ) → Growing nb bb root w d → bb < 2 ^ 32 → has bb root ≡ true → left ≡ minus w d → left ≡ 0 → w ≡ reachedWord nb bb root
-grow-done nb bb root w d left G R i el z =
-    reached-one nb bb root w (reachedWord nb bb root)
-    (record { fits = G .fits; begun = G .begun; sound = G .sound; closed = λ y x p n. G .spread y x (all-done y p (has d y) refl) n }) (reached-is nb bb root R i)
-  where
-    all-done : (y : ℕ) → has w y ≡ true → (b : Bool) → has d y ≡ b → has d y ≡ true
-    all-done y p true q = q
-    all-done y p false q =
-        let m = has-minus w d y (G .fits-done) (has-bound 32 w y (G .fits) p) in
-        let o : has (minus w d) y ≡ true = m ∙ rw (p, q) in
-        absurd (clash (has (minus w d) y) o (rw (← el, z) (has-none y)))
+      onward : (y x : ℕ) → (has bb y ≡ true) × (has left y ≡ false) → normal nb bb y x ≡ true → has w x ≡ true
+      onward y x p n =
+          there x (and-left (has bb x) (has (getD nb y 0) x) (and-right (has bb y) (has bb x && has (getD nb y 0) x) n))
+          (G .spread y x (p .0) (p .1) (rw z (has-none y)) n)
 
 -- ---- connected
 pub part-empty : (nb : List ℕ) (bb : ℕ) → bb ≡ 0 → false ≡ connectedBy nb bb
@@ -139,30 +231,83 @@ pub part-full : (nb : List ℕ) (bb r w : ℕ) → (bb ≡ 0 → ⊥) → r ≡ 
 unfolding connectedBy
 part-full nb bb r w ne er ew = rw (ne-eqb bb 0 ne, ew, er)
 
--- ---- served, enough
-pub served-in : (nb : List ℕ) (iso bb v y m c : ℕ) (i : Bool) → i ≡ has iso v → i ≡ true → y ≡ getD nb v 0 → m ≡ both y bb → c ≡ ones m → leb 2 c ≡ servedBy nb iso bb v
-unfolding servedBy
-served-in nb iso bb v y m c i ei p ey em ec = rw (← ei, p, ec, em, ey)
+-- ---- all_served
 
-pub served-out : (nb : List ℕ) (iso bb v : ℕ) (i : Bool) → i ≡ has iso v → i ≡ false → true ≡ servedBy nb iso bb v
-unfolding servedBy
-served-out nb iso bb v i ei p = rw (← ei, p)
+-- each isolated node below n that is not left has its two links
+pub record Serving (nb : List ℕ) (iso bb n left : ℕ) : Type 0 where
+  pub fits : left < 2 ^ 32
+  pub inside : (x : ℕ) → has left x ≡ true → (has iso x ≡ true) × (x < n)
+  pub enough : (x : ℕ) → x < n → has iso x ≡ true → has left x ≡ false → leb 2 (ones (both (getD nb x 0) bb)) ≡ true
 
-pub enough-none : (nb : List ℕ) (iso bb : ℕ) → allServed nb iso bb 0 ≡ true
-unfolding allServed all
-enough-none nb iso bb = refl
+pub serve-start : (nb : List ℕ) (iso bb n f left : ℕ) → iso < 2 ^ 32 → f ≡ firsts n → left ≡ both iso f → Serving nb iso bb n left
+serve-start nb iso bb n f left R ef el =
+    record {
+      fits = rw el (both-fits iso f R);
+      inside = λ x q. let p = sym (at x) ∙ q in (and-left (has iso x) (ltb x n) p, ltb-true x n (and-right (has iso x) (ltb x n) p));
+      enough = λ x l i o. absurd (clash (has left x) (at x ∙ and-of (has iso x) (ltb x n) i (lt-ltb x n l)) o);
+    }
+  where
+    at : (x : ℕ) → has left x ≡ (has iso x && ltb x n)
+    at x = rw (el, ef) (has-both iso (firsts n) x ∙ ap (λ (t : Bool). has iso x && t) (has-first n x))
 
-pub enough-on : (nb : List ℕ) (iso bb v : ℕ) (s : Bool) → allServed nb iso bb v ≡ true → s ≡ servedBy nb iso bb v → s ≡ true → allServed nb iso bb (v + 1) ≡ true
-unfolding allServed all
-enough-on nb iso bb v s e es p = rw (add-one, all, e, ← es) p
+pub served-low : (nb : List ℕ) (iso bb n left v : ℕ) → Serving nb iso bb n left → (left ≡ 0 → ⊥) → v ≡ lowestIn left → v < 32
+served-low nb iso bb n left v S ne ev = lowest-there left v (S .fits) ne ev .0
 
-pub enough-out : (nb : List ℕ) (iso bb v n : ℕ) (s : Bool) → s ≡ servedBy nb iso bb v → s ≡ false → v < n → false ≡ allServed nb iso bb n
-unfolding allServed
-enough-out nb iso bb v n s es p l =
-    sym (false-of (all (servedBy nb iso bb) n) (λ e. true≢false (sym (all-at (servedBy nb iso bb) n e v l) ∙ sym es ∙ p)))
+module _ (nb : List ℕ) (iso bb n left v y joined c : ℕ) (S : Serving nb iso bb n left) (ne : left ≡ 0 → ⊥) (ev : v ≡ lowestIn left) (ey : y ≡ getD nb v 0)
+    (ej : joined ≡ both y bb) (ec : c ≡ ones joined) where
+  next : (v < 32) × (has left v ≡ true)
+  next = lowest-there left v (S .fits) ne ev
 
-pub enough-done : (nb : List ℕ) (iso bb v n : ℕ) → allServed nb iso bb v ≡ true → v ≤ n → n ≤ v → true ≡ allServed nb iso bb n
-enough-done nb iso bb v n e h g = let q : v ≡ n = omega arith in sym e ∙ ap (allServed nb iso bb) q
+  counted : c ≡ ones (both (getD nb v 0) bb)
+  counted = ec ∙ rw (ej, ey)
+
+  pub serve-out : c < 2 → false ≡ allServed nb iso bb n
+  unfolding allServed servedBy
+  serve-out few =
+      let p = S .inside v (next .1) in
+      sym (false-of (all (servedBy nb iso bb) n)
+      (λ e. clash (leb 2 c) (rw counted (or-else (has iso v) (leb 2 (ones (both (getD nb v 0) bb))) (p .0) (all-at (servedBy nb iso bb) n e v (p .1)))) (lt-leb 2 c few)))
+    where
+      or-else : (i t : Bool) → i ≡ true → (not i || t) ≡ true → t ≡ true
+      or-else true t e p = p
+      or-else false t e p = absurd (true≢false (sym e))
+
+  module _ (left′ : ℕ) (el : left′ ≡ removing left v) where
+    at-less : (x : ℕ) → x < 32 → has left′ x ≡ (has left x && not (eqb x v))
+    at-less x l = ap (λ (w : ℕ). has w x) el ∙ has-removing left v x (next .0) l
+
+    fewer : left′ < 2 ^ 32
+    fewer = rw el (removing-fits left v (S .fits))
+
+    was : (x : ℕ) → has left′ x ≡ true → has left x ≡ true
+    was x q = and-left (has left x) (not (eqb x v)) (sym (at-less x (has-bound 32 left′ x fewer q)) ∙ q)
+
+    pub serve-less : ones left′ < ones left
+    serve-less = fewer-ones left′ left v fewer (S .fits) (next .0) was (at-less v (next .0) ∙ rw (eq-eqb v v refl) (and-false (has left v))) (next .1)
+
+    pub serve-more : iso < 2 ^ 32 → 2 ≤ c → Serving nb iso bb n left′
+    serve-more R two =
+        record {
+          fits = fewer;
+          inside = λ x q. S .inside x (was x q);
+          enough = λ x l i o. each x l i o (eqb x v) refl;
+        }
+      where
+        each : (x : ℕ) → x < n → has iso x ≡ true → has left′ x ≡ false → (t : Bool) → eqb x v ≡ t → leb 2 (ones (both (getD nb x 0) bb)) ≡ true
+        each x l i o true e = rw (eqb-true x v e, ← counted) (le-leb 2 c two)
+        each x l i o false e = S .enough x l i (out (has left x) refl)
+          where
+            out : (t : Bool) → has left x ≡ t → has left x ≡ false
+            out false p = p
+            out true p = absurd (clash (has left′ x) (at-less x (has-bound 32 iso x R i) ∙ rw (p, e)) o)
+
+pub serve-done : (nb : List ℕ) (iso bb n left : ℕ) → Serving nb iso bb n left → left ≡ 0 → true ≡ allServed nb iso bb n
+unfolding allServed servedBy
+serve-done nb iso bb n left S z = sym (all-of (servedBy nb iso bb) n (λ v l. each v l (has iso v) refl))
+  where
+    each : (v : ℕ) → v < n → (t : Bool) → has iso v ≡ t → (not (has iso v) || leb 2 (ones (both (getD nb v 0) bb))) ≡ true
+    each v l false i = rw i
+    each v l true i = rw i (S .enough v l i (rw z (has-none v)))
 
 -- ---- backbone, topology_number
 pub backbone-at : (n iso f r : ℕ) → f ≡ firsts n → r ≡ minus f iso → r ≡ backboneWord n iso

@@ -9,17 +9,17 @@ use words::adding;
 use words::both;
 use words::either;
 use words::firsts;
-use words::has;
 use words::lowest;
 use words::minus;
 use words::only;
+use words::removing;
 use words::size;
 ghost use mathlib.Core.Path.{_≡_};
 ghost use mathlib.Core.Bool.{true};
 ghost use Prim.Native.Nat.{_<_, _≤_};
 ghost use Rattle.words.specs.Word.{has};
 ghost use Rattle.topologyrules.specs.Entered.{entered};
-ghost use Rattle.topologyrules.specs.Topology.{backboneWord, reachedWord, connectedBy, servedBy, allServed, numberBy};
+ghost use Rattle.topologyrules.specs.Topology.{backboneWord, reachedWord, connectedBy, allServed, numberBy};
 
 // ---- a topology, by words
 
@@ -32,23 +32,24 @@ pub fn backbone(n: u8, iso: u32) -> u32
     minus(firsts(n), iso)
 }
 
-// What normal links join to a node of the backbone. Each node found is expanded once.
+// What normal links join to a node of the backbone. The word of reached nodes, the backbone without those that are left, grows
+// from that node until it is the whole backbone, or until no node waits to be looked from.
 fn reach(nb: &[u32], bb: u32, root: u8) -> u32
     requires { ⌜ has bb root ≡ true ⌝ }
     ensures { λ r. ⌜ r ≡ reachedWord (now (nb .entry)) bb root ⌝ }
 {
-    let mut w = only(root);
-    let mut done = 0u32;
-    loop {
-        let left = minus(w, done);
-        if left == 0 {
-            return w;
+    let mut left = removing(bb, root);
+    let mut waiting = only(root);
+    while left != 0 {
+        if waiting == 0 {
+            return minus(bb, left);
         }
-        let v = lowest(left);
-        let near = both(word(nb, v as usize), bb);
-        w = either(w, near);
-        done = adding(done, v);
+        let v = lowest(waiting);
+        let found = both(word(nb, v as usize), left);
+        left = minus(left, found);
+        waiting = either(removing(waiting, v), found);
     }
+    bb
 }
 
 // The backbone is non-empty and connected by normal links.
@@ -63,29 +64,19 @@ pub fn connected(nb: &[u32], bb: u32) -> bool
     reach(nb, bb, lowest(bb)) == bb
 }
 
-// Node v is not isolated, or has two neighbours in the backbone.
-fn served(nb: &[u32], iso: u32, bb: u32, v: u8) -> bool
-    requires { ⌜ v < 32 ⌝ }
-    ensures { λ r. ⌜ r ≡ servedBy (now (nb .entry)) iso bb v ⌝ }
-{
-    if has(iso, v) {
-        return size(both(word(nb, v as usize), bb)) >= 2;
-    }
-    true
-}
-
+// Each isolated node has two neighbours in the backbone.
 fn all_served(nb: &[u32], iso: u32, bb: u32, n: u8) -> bool
-    requires { ⌜ n ≤ 32 ⌝ }
+    requires { ⌜ (1 ≤ n) × (n ≤ 32) ⌝ }
     ensures { λ r. ⌜ r ≡ allServed (now (nb .entry)) iso bb n ⌝ }
 {
-    let mut v: u8 = 0;
-    while v < n {
-        let ok = served(nb, iso, bb, v);
-        if ok {
-            v += 1;
-        } else {
+    let mut left = both(iso, firsts(n));
+    while left != 0 {
+        let v = lowest(left);
+        let joined = both(word(nb, v as usize), bb);
+        if size(joined) < 2 {
             return false;
         }
+        left = removing(left, v);
     }
     true
 }

@@ -188,6 +188,10 @@ pub adding-fits : (w u : ℕ) → w < 2 ^ 32 → u < 32 → adding w u < 2 ^ 32
 unfolding adding
 adding-fits w u h l = or-lt 32 w (2 ^ u) h (pow-lt l)
 
+pub removing-fits : (w u : ℕ) → w < 2 ^ 32 → removing w u < 2 ^ 32
+unfolding removing
+removing-fits w u h = let l = and-le-l w (2 ^ 32 - 1 - 2 ^ u) in omega arith
+
 pub firsts-fits : (n : ℕ) → n ≤ 32 → firsts n < 2 ^ 32
 unfolding firsts
 firsts-fits n h = let p = pow-mono h in omega arith

@@ -1,38 +1,53 @@
-use Prim.Native.Nat.{_-_, _≤_}
-use Rattle.topologyrules.proofs.Laws.{enough-done, enough-none, enough-on, enough-out}
-use Rattle.topologyrules.specs.Topology.{allServed}
+use Rattle.topologyrules.proofs.Laws.{Serving, serve-done, serve-less, serve-more, serve-out, serve-start, served-low}
 use borrow.Author.Needs.{needs}
-use mathlib.Core.Bool.{true}
-use mathlib.Core.Path.{_≡_}
+use lib.Count.{ones}
 use Rattle.topologyrules.proofs.all_served.Statement.{statement}
 use Rattle.topologyrules.proofs.all_served.Tie as tie
 
 abbrev Inv-loop : tie.InvT-loop
-Inv-loop nb iso bb n v₀ v = (v ≤ n) × (allServed nb iso bb v ≡ true)
+Inv-loop nb iso bb n left₀ left = Serving nb iso bb n left
 
 abbrev μ-loop : tie.MeasureT-loop
-μ-loop nb iso bb n v₀ v = n - v
+μ-loop nb iso bb n left₀ left = ones left
+
+firsts-requires : tie.Need-firsts-requires Inv-loop μ-loop
+firsts-requires c κs = search needs
+
+both-requires : tie.Need-both-requires Inv-loop μ-loop
+both-requires c κs = search needs
 
 loop-holds : tie.Need-loop-holds Inv-loop μ-loop
-loop-holds c = (search needs, search enough-none)
+loop-holds c = search serve-start
 
-served-requires : tie.Need-served-requires Inv-loop μ-loop
-served-requires c κs = search needs
+lowest-requires : tie.Need-lowest-requires Inv-loop μ-loop
+lowest-requires c κs = search needs
 
-add-v : tie.Need-add-v Inv-loop μ-loop
-add-v c = search needs
+cast-word : tie.Need-cast-word Inv-loop μ-loop
+cast-word c = search needs
 
-loop-less : tie.Need-loop-less Inv-loop μ-loop
-loop-less c = search needs
+word-requires : tie.Need-word-requires Inv-loop μ-loop
+word-requires c κs = search needs
 
-loop-again : tie.Need-loop-again Inv-loop μ-loop
-loop-again c = (search needs, search enough-on)
+both-requires-2 : tie.Need-both-requires-2 Inv-loop μ-loop
+both-requires-2 c κs = search needs
+
+size-requires : tie.Need-size-requires Inv-loop μ-loop
+size-requires c κs = search needs
 
 returns : tie.Need-returns Inv-loop μ-loop
-returns c = search enough-out
+returns c = search serve-out
+
+removing-requires : tie.Need-removing-requires Inv-loop μ-loop
+removing-requires c κs = search served-low
+
+loop-less : tie.Need-loop-less Inv-loop μ-loop
+loop-less c = search serve-less
+
+loop-again : tie.Need-loop-again Inv-loop μ-loop
+loop-again c = search serve-more
 
 returns-2 : tie.Need-returns-2 Inv-loop μ-loop
-returns-2 c = search enough-done
+returns-2 c = search serve-done
 
 pub all-served-spec : {M : Type 1} → statement M
 all-served-spec =
@@ -40,10 +55,16 @@ all-served-spec =
     (tie.spec
     Inv-loop
     μ-loop
+    firsts-requires
+    both-requires
     loop-holds
-    served-requires
-    add-v
+    lowest-requires
+    cast-word
+    word-requires
+    both-requires-2
+    size-requires
+    returns
+    removing-requires
     loop-less
     loop-again
-    returns
     returns-2)

@@ -1,15 +1,18 @@
-use Prim.Native.Nat.{_-_}
-use Rattle.topologyrules.proofs.Laws.{Growing, grow-done, grow-less, grow-more, grow-start, left-low, root-low}
+use Rattle.topologyrules.proofs.Laws.{Growing, grow-done, grow-less, grow-more, grow-start, grow-whole, root-low, waiting-low}
+use Rattle.words.specs.Word.{either}
 use borrow.Author.Needs.{needs}
 use lib.Count.{ones}
 use Rattle.topologyrules.proofs.reach.Statement.{statement}
 use Rattle.topologyrules.proofs.reach.Tie as tie
 
 abbrev Inv-loop : tie.InvT-loop
-Inv-loop nb bb root w₀ done₀ w done = Growing nb bb root w done
+Inv-loop nb bb root left₀ waiting₀ left waiting = Growing nb bb root left waiting
 
 abbrev μ-loop : tie.MeasureT-loop
-μ-loop nb bb root w₀ done₀ w done = 32 - ones done
+μ-loop nb bb root left₀ waiting₀ left waiting = ones (either left waiting)
+
+removing-requires : tie.Need-removing-requires Inv-loop μ-loop
+removing-requires c κs = search root-low
 
 only-requires : tie.Need-only-requires Inv-loop μ-loop
 only-requires c κs = search root-low
@@ -35,11 +38,14 @@ word-requires c κs = search needs
 both-requires : tie.Need-both-requires Inv-loop μ-loop
 both-requires c κs = search needs
 
+minus-requires-2 : tie.Need-minus-requires-2 Inv-loop μ-loop
+minus-requires-2 c κs = search needs
+
+removing-requires-2 : tie.Need-removing-requires-2 Inv-loop μ-loop
+removing-requires-2 c κs = search waiting-low
+
 either-requires : tie.Need-either-requires Inv-loop μ-loop
 either-requires c κs = search needs
-
-adding-requires : tie.Need-adding-requires Inv-loop μ-loop
-adding-requires c κs = search left-low
 
 loop-less : tie.Need-loop-less Inv-loop μ-loop
 loop-less c = search grow-less
@@ -47,12 +53,16 @@ loop-less c = search grow-less
 loop-again : tie.Need-loop-again Inv-loop μ-loop
 loop-again c = search grow-more
 
+returns-2 : tie.Need-returns-2 Inv-loop μ-loop
+returns-2 c = search grow-whole
+
 pub reach-spec : {M : Type 1} → statement M
 reach-spec =
     tie.close
     (tie.spec
     Inv-loop
     μ-loop
+    removing-requires
     only-requires
     loop-holds
     minus-requires
@@ -61,7 +71,9 @@ reach-spec =
     cast-word
     word-requires
     both-requires
+    minus-requires-2
+    removing-requires-2
     either-requires
-    adding-requires
     loop-less
-    loop-again)
+    loop-again
+    returns-2)
