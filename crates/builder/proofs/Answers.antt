@@ -22,6 +22,8 @@ use Rattle.rules.specs.Entries.Entry.{onAccept, Promise}
 use Rattle.rules.specs.Entries.Build.{builtFrom, buildEntry}
 use Rattle.rules.proofs.Ground.Choices.{need-yes, need-no, need-ok, refuse-no, refuse-ok, refuse-zero, then-ok, then-no, then-first, then-second, then-assoc}
 use Rattle.rules.proofs.File.SetOfBytes.{net-held}
+use Rattle.rules.proofs.File.Accepted as accepted
+use Rattle.rules.proofs.Building.BuildNumber.{zero-exactly}
 use Rattle.rules.proofs.Entries.Determined.{length-one}
 use Rattle.topologyrules.proofs.Same.{WordsOf}
 use Rattle.checker.specs.Graph.{neighbourWords}
@@ -74,55 +76,56 @@ module _ (s homes d : List ℕ) (net set : Network) (k bytes : ℕ) (en : net �
       let there : bytes ≤ length d = leb-true bytes (length d) (need-ok (leb bytes (length d)) 13 0 (refuse-zero _ 0 (sym ev ∙ t)) .0) in
       gives-length _ (filled (setOf s) homes) d f bytes (sym (room-is v ev) ∙ t) long-is (ef ∙ written-is s homes d set set-is (rw (← eb) there))
 
--- ---- fit
-
 words-are : (s nb : List ℕ) (net : Network) → judge s ≡ Accepted → net ≡ headerOf s → nb ≡ neighbourWords s (net .m) → WordsOf (setOf s) nb
 words-are s nb net a en eb = rw (eb, en) (words-of s (accepted-few s a))
 
+-- ---- unplaced_number
+
+pub some-one : (nb : List ℕ) (n : ℕ) (t : Bool) → t ≡ allSpared nb n n → t ≡ false → 9 ≡ need (allSpared nb n n) 9 10
+some-one nb n t e f = need-no (allSpared nb n n) 9 10 9 (sym e ∙ f) refl
+
+pub no-one : (nb : List ℕ) (n : ℕ) (t : Bool) → t ≡ allSpared nb n n → t ≡ true → 10 ≡ need (allSpared nb n n) 9 10
+no-one nb n t e f = need-yes (allSpared nb n n) 9 10 10 (sym e ∙ f) refl
+
+-- ---- fit
+
 module _ (s nb homes d : List ℕ) (net : Network) (cap r : ℕ) (a : judge s ≡ Accepted) (en : net ≡ headerOf s) (eb : nb ≡ neighbourWords s (net .m))
     (P : Placed nb (net .n) cap homes r) where
+  words : WordsOf (setOf s) nb
+  words = words-are s nb net a en eb
+
+  same-net : net ≡ setOf s .net
+  same-net = en ∙ sym (net-held s)
+
   placed-is : Placed nb (setOf s .net .n) cap homes r
-  unfolding setOf
-  placed-is = subst (λ (h : Network). Placed nb (h .n) cap homes r) en P
+  placed-is = subst (λ (h : Network). Placed nb (h .n) cap homes r) same-net P
 
-  pub cap-passed : (v : Verdict) (S : Set) → r < net .n → Gives (andThen (refuse (need (fits (setOf s) cap) 10 0) 0) v) S d (long.Refused 10 0) d
-  cap-passed v S h =
-      let h′ : r < setOf s .net .n = subst (λ (x : Network). r < x .n) (en ∙ sym (net-held s)) h in
-      let q = passed-cap (setOf s) nb (words-are s nb net a en eb) cap homes r placed-is h′ in
-      gives-refused (andThen (refuse (need (fits (setOf s) cap) 10 0) 0) v) S d 10 0
-      (then-no (refuse (need (fits (setOf s) cap) 10 0) 0) v 10 0 (ap (λ (x : ℕ). refuse x 0) (sym (need-no (fits (setOf s) cap) 10 0 10 q refl)) ∙ refuses 10 (λ z. omega arith)))
+  -- a node is not placed: 9 or 10
+  pub not-placed : (v : Verdict) (S : Set) (number : ℕ) → r < net .n → number ≡ need (allSpared nb (net .n) (net .n)) 9 10
+      → Gives (andThen (needFit (setOf s) cap) v) S d (long.Refused number 0) d
+  unfolding needFit buildNumber need
+  not-placed v S number h e =
+      let f = passed-cap (setOf s) nb words cap homes r placed-is (subst (λ (x : Network). r < x .n) same-net h) in
+      let t = subst (λ (x : Network). allSpared nb (x .n) (x .n) ≡ all (spared (setOf s)) (setOf s .net .n)) (sym same-net) (all-spared-same (setOf s) nb words) in
+      gives-refused (andThen (needFit (setOf s) cap) v) S d number 0
+      (then-no (needFit (setOf s) cap) v number 0
+      (ap (λ (x : ℕ). refuse x 0) (rw f (sym (e ∙ ap (λ (q : Bool). need q 9 10) t))) ∙ refuses number (λ z. some (allSpared nb (net .n) (net .n)) (sym e ∙ z))))
+    where
+      some : (q : Bool) → need q 9 10 ≡ 0 → ⊥
+      some true z = omega arith
+      some false z = omega arith
 
-  pub cap-kept : (w : LengthAnswer) (f : List ℕ) → net .n ≤ r → Gives (needRoom (fileLength (filled (setOf s) homes .net)) d) (filled (setOf s) homes) d w f
-      → Gives (andThen (refuse (need (fits (setOf s) cap) 10 0) 0) (needRoom (fileLength (built (setOf s) cap .net)) d)) (built (setOf s) cap) d w f
-  unfolding built
-  cap-kept w f h g =
-      let h′ : setOf s .net .n ≤ r = subst (λ (x : Network). x .n ≤ r) (en ∙ sym (net-held s)) h in
-      let q = all-placed (setOf s) nb (words-are s nb net a en eb) cap homes r placed-is h′ in
-      let e = placed-homes (setOf s) nb (words-are s nb net a en eb) cap homes r placed-is h′ in
-      gives-on (refuse (need (fits (setOf s) cap) 10 0) 0) (needRoom (fileLength (filled (setOf s) (firstFit (setOf s) cap) .net)) d) (filled (setOf s) (firstFit (setOf s) cap)) d w f
-      (sym (refuse-ok (need (fits (setOf s) cap) 10 0) 0 (sym (need-yes (fits (setOf s) cap) 10 0 0 q refl))))
+  -- every node is placed: neither 9 nor 10
+  pub all-fitted : (w : LengthAnswer) (f : List ℕ) → net .n ≤ r → Gives (needRoom (fileLength (filled (setOf s) homes .net)) d) (filled (setOf s) homes) d w f
+      → Gives (andThen (needFit (setOf s) cap) (needRoom (fileLength (built (setOf s) cap .net)) d)) (built (setOf s) cap) d w f
+  unfolding built needFit
+  all-fitted w f h g =
+      let h′ : setOf s .net .n ≤ r = subst (λ (x : Network). x .n ≤ r) same-net h in
+      let q = all-placed (setOf s) nb words cap homes r placed-is h′ in
+      let e = placed-homes (setOf s) nb words cap homes r placed-is h′ in
+      gives-on (refuse (buildNumber (setOf s) cap) 0) (needRoom (fileLength (filled (setOf s) (firstFit (setOf s) cap) .net)) d) (filled (setOf s) (firstFit (setOf s) cap)) d w f
+      (sym (refuse-ok (buildNumber (setOf s) cap) 0 (zero-exactly (setOf s) cap (accepted.judged s a .rules) .1 q)))
       (subst (λ (x : List ℕ). Gives (needRoom (fileLength (filled (setOf s) x .net)) d) (filled (setOf s) x) d w f) e g)
-
--- ---- build_graph
-
-module _ (s nb d : List ℕ) (net : Network) (cap : ℕ) (t : Bool) (a : judge s ≡ Accepted) (en : net ≡ headerOf s) (eb : nb ≡ neighbourWords s (net .m))
-    (et : t ≡ allSpared nb (net .n) (net .n)) where
-  spared-is : t ≡ all (spared (setOf s)) (setOf s .net .n)
-  spared-is = et ∙ subst (λ (h : Network). allSpared nb (h .n) (h .n) ≡ allSpared nb (setOf s .net .n) (setOf s .net .n)) (sym (en ∙ sym (net-held s))) refl ∙ all-spared-same (setOf s) nb (words-are s nb net a en eb)
-
-  pub not-spared : (v : Verdict) (S : Set) → t ≡ false → Gives (andThen (needFit (setOf s) cap) v) S d (long.Refused 9 0) d
-  unfolding needFit buildNumber
-  not-spared v S h =
-      gives-refused (andThen (needFit (setOf s) cap) v) S d 9 0
-      (then-no (needFit (setOf s) cap) v 9 0
-      (ap (λ (x : ℕ). refuse x 0) (sym (need-no (all (spared (setOf s)) (setOf s .net .n)) 9 (need (fits (setOf s) cap) 10 0) 9 (sym spared-is ∙ h) refl)) ∙ refuses 9 (λ z. omega arith)))
-
-  pub spared-all : (v : Verdict) (S : Set) (w : LengthAnswer) (f : List ℕ) → t ≡ true → Gives (andThen (refuse (need (fits (setOf s) cap) 10 0) 0) v) S d w f
-      → Gives (andThen (needFit (setOf s) cap) v) S d w f
-  unfolding needFit buildNumber
-  spared-all v S w f h g =
-      subst (λ (x : ℕ). Gives (andThen (refuse x 0) v) S d w f)
-      (need-yes (all (spared (setOf s)) (setOf s .net .n)) 9 (need (fits (setOf s) cap) 10 0) (need (fits (setOf s) cap) 10 0) (sym spared-is ∙ h) refl) g
 
 -- ---- build
 

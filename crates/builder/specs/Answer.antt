@@ -4,11 +4,11 @@ use mathlib.Core.List.{List, [], _∷_}
 use Prim.Native.Nat.{ℕ}
 use Rattle.rules.specs.declared.Verdict.{Verdict}
 use Rattle.rules.specs.declared.LengthAnswer.{LengthAnswer}
-use Rattle.rules.specs.Basics.{need, laid}
+use Rattle.rules.specs.Basics.{laid}
 use Rattle.rules.specs.Limits.{fileLength}
 use Rattle.rules.specs.File.{Set, encode, setOf}
-use Rattle.rules.specs.Building.{fits, filled, built}
-use Rattle.rules.specs.Judgement.{refuse, andThen, needFit, needRoom}
+use Rattle.rules.specs.Building.{filled, built}
+use Rattle.rules.specs.Judgement.{andThen, needFit, needRoom}
 use Rattle.rules.specs.Answers.{tell, lengthTells}
 use Rattle.rules.specs.Entries.Entry.{onAccept}
 
@@ -21,12 +21,7 @@ pub record Gives (v : Verdict) (S : Set) (before : List ℕ) (r : LengthAnswer) 
 abbrev pub FilledIn : List ℕ → List ℕ → List ℕ → LengthAnswer → List ℕ → Type 0
 FilledIn s homes before r after = Gives (needRoom (fileLength (filled (setOf s) homes .net)) before) (filled (setOf s) homes) before r after
 
--- with first fit's homes, after 10 and 14
-abbrev pub FittedIn : List ℕ → ℕ → List ℕ → LengthAnswer → List ℕ → Type 0
-FittedIn s cap before r after =
-    Gives (andThen (refuse (need (fits (setOf s) cap) 10 0) 0) (needRoom (fileLength (built (setOf s) cap .net)) before)) (built (setOf s) cap) before r after
-
--- the same, after 9, 10 and 14
+-- with first fit's homes, after 9, 10 and 14
 abbrev pub BuiltIn : List ℕ → ℕ → List ℕ → LengthAnswer → List ℕ → Type 0
 BuiltIn s cap before r after =
     Gives (andThen (needFit (setOf s) cap) (needRoom (fileLength (built (setOf s) cap .net)) before)) (built (setOf s) cap) before r after

@@ -20,12 +20,14 @@ ghost use mathlib.Core.Path.{_≡_};
 ghost use Prim.Native.Nat.{_≤_};
 ghost use lib.ListN.{length, replicate};
 ghost use Rattle.rules.specs.declared.Verdict.the-variants.{Accepted};
+ghost use Rattle.rules.specs.Basics.{need};
 ghost use Rattle.rules.specs.File.{headerOf};
 ghost use Rattle.rules.specs.Judgement.{andThen, judge, needGraph, needCap};
 ghost use Rattle.rules.specs.Entries.Entry.{Promise};
 ghost use Rattle.rules.specs.Entries.Build.{buildEntry};
 ghost use Rattle.checker.specs.Graph.{neighbourWords};
-ghost use Rattle.builder.specs.Answer.{FilledIn, FittedIn, BuiltIn};
+ghost use Rattle.firstfit.specs.Fit.{allSpared};
+ghost use Rattle.builder.specs.Answer.{FilledIn, BuiltIn};
 
 // ---- the answer
 
@@ -48,7 +50,19 @@ fn finish(graph: &[u8], net: Network, homes: &[u8], file: &mut [u8]) -> LengthAn
     }
 }
 
-// First fit, then the file.
+// Why first fit did not place every node: 9 where some one node holds the others together, else 10.
+fn unplaced_number(nb: &[u32], n: u8) -> u8
+    requires { ⌜ (1 ≤ n) × (n ≤ 32) ⌝ }
+    ensures { λ r. ⌜ r ≡ need (allSpared (now (nb .entry)) n n) 9 10 ⌝ }
+{
+    let whole = all_spared(nb, n);
+    if whole {
+        return 10;
+    }
+    9
+}
+
+// First fit, then the file. Where every node is placed no one node holds the others together, so 9 is asked only where one is not.
 fn fit(
     graph: &[u8],
     net: Network,
@@ -62,14 +76,12 @@ fn fit(
     requires { ⌜ cap ≤ 32 ⌝ }
     requires { ⌜ now nb ≡ neighbourWords (now graph) (net .m) ⌝ }
     requires { ⌜ now homes ≡ replicate (net .n) 0 ⌝ }
-    ensures { λ r. ⌜ FittedIn (now (graph .entry)) cap (now (file .entry)) r (now (file .exit)) ⌝ }
+    ensures { λ r. ⌜ BuiltIn (now (graph .entry)) cap (now (file .entry)) r (now (file .exit)) ⌝ }
 {
     let placed = first_fit(nb, net.n, cap, homes);
     if placed < net.n {
-        return LengthAnswer::Refused {
-            number: 10,
-            place: 0,
-        };
+        let number = unplaced_number(nb, net.n);
+        return LengthAnswer::Refused { number, place: 0 };
     }
     finish(graph, net, homes, file)
 }
@@ -81,7 +93,7 @@ fn fit_nodes(graph: &[u8], net: Network, cap: u8, nb: &[u32], file: &mut [u8]) -
     requires { ⌜ net .n ≤ 32 ⌝ }
     requires { ⌜ cap ≤ 32 ⌝ }
     requires { ⌜ now nb ≡ neighbourWords (now graph) (net .m) ⌝ }
-    ensures { λ r. ⌜ FittedIn (now (graph .entry)) cap (now (file .entry)) r (now (file .exit)) ⌝ }
+    ensures { λ r. ⌜ BuiltIn (now (graph .entry)) cap (now (file .entry)) r (now (file .exit)) ⌝ }
 {
     let mut homes = [0u8; Network::MOST_NODES];
     let n = net.n as usize;
@@ -96,14 +108,7 @@ fn build_graph(graph: &[u8], cap: u8, file: &mut [u8]) -> LengthAnswer
 {
     let net = header(graph);
     let nb = neighbour_words(graph, net.m);
-    let whole = all_spared(&nb, net.n);
-    if whole {
-        return fit_nodes(graph, net, cap, &nb, file);
-    }
-    LengthAnswer::Refused {
-        number: 9,
-        place: 0,
-    }
+    fit_nodes(graph, net, cap, &nb, file)
 }
 
 // What is refused before anything is built: 1 to 6, then 13 where a set is given, then 11 for the cap.

@@ -1,5 +1,4 @@
-use Rattle.builder.proofs.Answers.{not-spared, spared-all}
-use Rattle.checker.proofs.Files.{ends-of, few-of, some-of}
+use Rattle.checker.proofs.Files.{ends-of, few-of}
 use borrow.Author.Needs.{needs}
 use Rattle.builder.proofs.build_graph.Statement.{statement}
 use Rattle.builder.proofs.build_graph.Tie as tie
@@ -9,12 +8,6 @@ header-requires c κs = search needs
 
 neighbour-words-requires : tie.Need-neighbour-words-requires
 neighbour-words-requires c κs = search ends-of
-
-slice-aggregate-all-spared : tie.Need-slice-aggregate-all-spared
-slice-aggregate-all-spared c = search needs
-
-all-spared-requires : tie.Need-all-spared-requires
-all-spared-requires c κs = (search some-of, search few-of)
 
 slice-aggregate-fit-nodes : tie.Need-slice-aggregate-fit-nodes
 slice-aggregate-fit-nodes c = search needs
@@ -26,10 +19,7 @@ same-length : tie.Need-same-length
 same-length c = search needs
 
 returns : tie.Need-returns
-returns c = search spared-all
-
-returns-2 : tie.Need-returns-2
-returns-2 c = search not-spared
+returns c = search needs
 
 pub build-graph-spec : {M : Type 1} → statement M
 build-graph-spec =
@@ -37,10 +27,7 @@ build-graph-spec =
     (tie.spec
     header-requires
     neighbour-words-requires
-    slice-aggregate-all-spared
-    all-spared-requires
     slice-aggregate-fit-nodes
     fit-nodes-requires
     same-length
-    returns
-    returns-2)
+    returns)
