@@ -114,6 +114,7 @@ static void over_tests(const char *what) {
     peer("LEMON", lemon_connected);
     peer("igraph", igraph_connected);
     heading(what, "n, m", ways);
+    for (const Size &size : graph_sizes) row(size, 1, ways);
     for (const Size &size : graph_sizes) row(size, size.variety, ways);
 }
 

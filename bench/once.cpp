@@ -3,11 +3,12 @@
 #include <cstdio>
 #include <cstdlib>
 #include <cstring>
+#include <iterator>
 
 int main(int count, char **words) {
     int row = count == 3 ? std::atoi(words[2]) : -1;
-    if (row < 0 || row > 2) return 2;
-    bool building = !std::strcmp(words[1], "build"), reporting = !std::strcmp(words[1], "report");
+    bool building = count == 3 && !std::strcmp(words[1], "build"), reporting = count == 3 && !std::strcmp(words[1], "report");
+    if (row < 0 || row >= (int)(building ? std::size(graph_sizes) : std::size(set_sizes))) return 2;
     const Size &size = building ? graph_sizes[row] : set_sizes[row];
     Set s = make_set(size, 0);
     vector<uint8_t> out(most_bytes);

@@ -20,20 +20,36 @@ size_t encode(const Set &s, int k, const uint8_t *homes, uint8_t *out) {
     return p - out;
 }
 
-// Neighbours on the ring first, then chords of each length, until there are m links; the file wants them by a, then b.
-static vector<std::pair<int, int>> ring_with_chords(int n, int m) {
-    vector<std::pair<int, int>> links;
+using Links = vector<std::pair<int, int>>;
+
+// Neighbours on the ring first, then chords of each length, until there are m links.
+static Links ring_with_chords(int n, int m) {
+    Links links;
     for (int step : {1, 2, 5, 11})
-        for (int v = 0; v < n && (int)links.size() < m; v++) {
-            int w = (v + step) % n;
-            links.push_back({std::min(v, w), std::max(v, w)});
-        }
+        for (int v = 0; v < n && (int)links.size() < m; v++) links.push_back({v, (v + step) % n});
+    return links;
+}
+
+// The nodes renamed by a shuffle that follows from the seed; the seed 0 names them as they are.
+static void rename(Links &links, int n, uint32_t seed) {
+    vector<int> name(n);
+    for (int v = 0; v < n; v++) name[v] = v;
+    for (int v = n - 1; v > 0 && seed; v--) {
+        seed = seed * 1664525u + 1013904223u;
+        std::swap(name[v], name[(seed >> 8) % (v + 1)]);
+    }
+    for (auto &l : links) l = {name[l.first], name[l.second]};
+}
+
+// The file wants a below b, and the links by a, then b.
+static void put_in_order(Links &links, int n, int m) {
+    for (auto &l : links)
+        if (l.first > l.second) std::swap(l.first, l.second);
     std::sort(links.begin(), links.end());
     if ((int)links.size() != m || std::adjacent_find(links.begin(), links.end()) != links.end()) {
         std::fprintf(stderr, "n = %d, m = %d: too few different chords\n", n, m);
         std::exit(1);
     }
-    return links;
 }
 
 std::string label(const Size &size) {
@@ -42,8 +58,11 @@ std::string label(const Size &size) {
 
 Set make_set(const Size &size, int number) {
     Set s{size.n, size.m, size.k, 1000, {}, {}, {}, {}, {}, {}};
+    Links links = ring_with_chords(s.n, s.m);
+    if (s.k == 0) rename(links, s.n, 7919 * number);
+    put_in_order(links, s.n, s.m);
     uint32_t seed = 1 + 7919 * number;
-    for (auto &l : ring_with_chords(s.n, s.m)) {
+    for (auto &l : links) {
         s.a.push_back(l.first);
         s.b.push_back(l.second);
         seed = seed * 1664525u + 1013904223u;

@@ -5,11 +5,11 @@ use Prim.Native.Nat.{ℕ, suc, _+_, _*_, _/_, _%_, _≤_, _<_}
 use native.Mathlib.Nat.{add-zero, add-suc, suc-add}
 use native.Mathlib.Numerals.{add-one}
 use native.Mathlib.Omega.{arith}
-use lib.ListN.{length, set, drop}
+use lib.ListN.{length, getD, set, drop}
 use lib.Seq.{sets, length-sets, sets-eq, set-out}
 use Rattle.rules.specs.Basics.{flat, laid}
-use Rattle.rules.specs.File.{bytes2}
-use Rattle.rules.proofs.Ground.Rows.{length-flat}
+use Rattle.rules.specs.File.{two, bytes2}
+use Rattle.rules.proofs.Ground.Rows.{past, length-flat}
 use Rattle.slices.specs.Stores.{put}
 
 pub length-put : (d : List ℕ) (at : ℕ) (l : List ℕ) → length (put d at l) ≡ length d
@@ -28,6 +28,16 @@ pub put-then : (d e e′ : List ℕ) (at to : ℕ) (xs ys : List ℕ) → e ≡ 
 unfolding put
 put-then d e e′ at to xs ys p q r = q ∙ ap₂ (λ (l : List ℕ) (x : ℕ). sets l x ys) p r ∙ sets-then xs ys d at
 
+-- ---- two bytes, read
+
+pub two-there : (d : List ℕ) (at h l : ℕ) → h ≡ getD d at 0 → l ≡ getD d (at + 1) 0 → 256 * h + l ≡ two d at
+unfolding two
+two-there d at h l p q = rw (p, q)
+
+pub two-short : (d : List ℕ) (at h : ℕ) → h ≡ getD d at 0 → length d ≤ at + 1 → 256 * h ≡ two d at
+unfolding two
+two-short d at h p e = rw (← past d (at + 1) e, p, add-zero)
+
 -- ---- bytes
 
 pub put-inside : (d : List ℕ) (at x : ℕ) → set d at x ≡ put d at (x ∷ [])
@@ -38,14 +48,24 @@ pub put-past : (d : List ℕ) (at x : ℕ) → length d ≤ at → d ≡ put d a
 unfolding put
 put-past d at x h = sym (set-out d at x h)
 
-pub two-put : (d e e′ : List ℕ) (at x y : ℕ) → e ≡ put d at (x ∷ []) → e′ ≡ put e (at + 1) (y ∷ []) → e′ ≡ put d at (x ∷ y ∷ [])
-two-put d e e′ at x y p q = put-then d e e′ at (at + 1) (x ∷ []) (y ∷ []) p q refl
+pub two-inside : (d : List ℕ) (at x y : ℕ) → set (set d at x) (at + 1) y ≡ put d at (x ∷ y ∷ [])
+unfolding put
+two-inside d at x y = rw add-one
+
+pub two-past : (d e : List ℕ) (at x y : ℕ) → length d ≤ at + 1 → e ≡ put d at (x ∷ []) → e ≡ put d at (x ∷ y ∷ [])
+two-past d e at x y h p = put-then d e e at (at + 1) (x ∷ []) (y ∷ []) p (put-past e (at + 1) y (rw (p, length-put d at (x ∷ [])) h)) refl
+
+pub second-inside : (d e : List ℕ) (at : ℕ) (l : List ℕ) → at + 3 < length d → e ≡ put d at l → at + 2 + 1 < length e
+second-inside d e at l h p = rw (p, length-put d at l) (omega arith)
+
+pub four-put : (d e e′ : List ℕ) (at w x y z : ℕ) → e ≡ put d at (w ∷ x ∷ []) → e′ ≡ put e (at + 2) (y ∷ z ∷ []) → e′ ≡ put d at (w ∷ x ∷ y ∷ z ∷ [])
+four-put d e e′ at w x y z p q = put-then d e e′ at (at + 2) (w ∷ x ∷ []) (y ∷ z ∷ []) p q refl
 
 pub number-put : (d e : List ℕ) (at w : ℕ) → e ≡ put d at (w / 256 ∷ w % 256 ∷ []) → e ≡ put d at (bytes2 w)
 unfolding bytes2
 number-put d e at w p = p
 
-pub ruleset bytes = (put-inside, put-past, two-put, number-put)
+pub ruleset bytes = (put-inside, put-past, two-inside, two-past, four-put, number-put)
 
 -- ---- records in turn
 

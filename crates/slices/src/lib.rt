@@ -4,7 +4,7 @@ pub mod store; // store.rt: bytes, and numbers of two bytes
 
 ghost use mathlib.Core.Path.{_≡_};
 ghost use Prim.Native.Nat.{_<_};
-ghost use lib.ListN.{getD};
+ghost use lib.ListN.{length, getD};
 ghost use Rattle.rules.specs.File.{two};
 
 // The byte at a place, and 0 past the end.
@@ -15,15 +15,27 @@ pub fn byte(bytes: &[u8], at: usize) -> u8
     if at < bytes.len() { bytes[at] } else { 0 }
 }
 
-// The two bytes at a place as one number, the first the higher.
+// The byte at a place before the end.
+// Rules out: the byte before; 0 in its place.
+pub fn within(bytes: &[u8], at: usize) -> u8
+    requires { ⌜ at < length (now bytes) ⌝ }
+    ensures { λ r. ⌜ r ≡ getD (now (bytes .entry)) at 0 ⌝ }
+{
+    bytes[at]
+}
+
+// The two bytes at a place as one number, the first the higher. One test does for both where the slice reaches that far.
 // Rules out: the lower byte first; the two bytes one place later.
 pub fn two(bytes: &[u8], at: usize) -> u16
     requires { ⌜ at < 4294967296 ⌝ }
     ensures { λ r. ⌜ r ≡ two (now (bytes .entry)) at ⌝ }
 {
-    let high = byte(bytes, at) as u16;
-    let low = byte(bytes, at + 1) as u16;
-    256 * high + low
+    if at + 1 < bytes.len() {
+        let high = within(bytes, at) as u16;
+        let low = within(bytes, at + 1) as u16;
+        return 256 * high + low;
+    }
+    256 * (byte(bytes, at) as u16)
 }
 
 // Entry i of a list of numbers of 16 bits, and 0 past its end.
