@@ -18,6 +18,8 @@ use Rattle.rules.specs.File.{headerOf, endA, endB, linkWeight, homeNode, homeTo
 use Rattle.rules.specs.Judgement.{refuse, inTurn, needMark, headerNumber, after, rises, linkNumber, homeNumber, rowWeightFits, rowNumber, records, judge}
 use Rattle.rules.proofs.Ground.Choices.{and-of, and-left, and-right, or-left, or-right, or-cases, clash, false-of, same-test, need-yes, need-no, need-ok, refuse-no, refuse-ok, then-ok, then-no, then-on, then-stop, turn-more, turn-stop, turn-done}
 use Rattle.rules.proofs.Ground.Numbers.{all-at}
+use Rattle.layout.specs.declared.LinkFields.{LinkFields}
+use Rattle.layout.specs.Fields.{LinkAt}
 use Rattle.recordrules.specs.Rules.{headerRule, linkRule, homeRule, rowRule, weightRule}
 use Rattle.judgement.specs.Turns.{judged, homesThenRows, rankBefore, lowBefore}
 
@@ -79,9 +81,9 @@ pub ranked-none : (s : List ℕ) → Ranked s 0 0
 unfolding rankBefore lowBefore
 ranked-none s = record { rank = refl; low = omega arith }
 
-pub ranked-more : (s : List ℕ) (l a b last : ℕ) → last ≡ 256 * a + b → a ≡ endA s l → b ≡ endB s l → b < 256 → Ranked s (l + 1) last
+pub ranked-more : (s : List ℕ) (l last : ℕ) (r : LinkFields) → LinkAt s l r → last ≡ 256 * r .a + r .b → r .b < 256 → Ranked s (l + 1) last
 unfolding rankBefore lowBefore
-ranked-more s l a b last e p q h = record { rank = rw (add-one) (e ∙ rw (p, q)); low = rw (add-one, ← q) h }
+ranked-more s l last r f e h = record { rank = rw (add-one) (e ∙ rw (f .end-a, f .end-b)); low = rw (add-one, ← f .end-b) h }
 
 rises-is : (s : List ℕ) (l last : ℕ) → Ranked s l last → endB s l < 256 → endA s l < endB s l → rises s l ≡ ltb last (256 * endA s l + endB s l)
 unfolding rises rankBefore lowBefore
@@ -90,14 +92,14 @@ rises-is s (suc l) last r h g =
     after-is (endA s l) (endB s l) (endA s (suc l)) (endB s (suc l)) (r .low) h
     ∙ ap (λ (k : ℕ). ltb k (256 * endA s (suc l) + endB s (suc l))) (sym (r .rank))
 
-pub link-number : (s : List ℕ) (h : Network) (l place last rank x y a b w number : ℕ) → number ≡ linkRule h x y last rank a b w → rank ≡ 256 * a + b → x ≡ getD s place 0
-    → y ≡ getD s (place + 1) 0 → place ≡ linkPlace l → a ≡ endA s l → b ≡ endB s l → w ≡ linkWeight s l → b < 256 → Ranked s l last
-    → number ≡ linkNumber s h l
+pub link-number : (s : List ℕ) (h : Network) (l last rank number : ℕ) (r : LinkFields) → LinkAt s l r → number ≡ linkRule h (r .x) (r .y) last rank (r .a) (r .b) (r .weight)
+    → rank ≡ 256 * r .a + r .b → r .b < 256 → Ranked s l last → number ≡ linkNumber s h l
 unfolding linkRule linkNumber needMark
-link-number s h l place last rank x y a b w number e er ex ey ep ea eb ew low r =
+link-number s h l last rank number r f e er low k =
+    let same = f .end-b in
     let in-order : (ltb (endA s l) (endB s l) ≡ true → rises s l ≡ ltb last (256 * endA s l + endB s l)) =
-    λ t. rises-is s l last r (omega arith) (ltb-true (endA s l) (endB s l) t) in
-    e ∙ rw (er, ex, ey, ep, ea, eb, ew) (ap (λ (k : ℕ). needMark s (linkPlace l) 0x4C 0x4B (need (ltb (endB s l) (h .n)) 4 k))
+    λ t. rises-is s l last k (omega arith) (ltb-true (endA s l) (endB s l) t) in
+    e ∙ rw (er, f .first, f .second, f .end-a, f .end-b, f .weight) (ap (λ (x : ℕ). needMark s (linkPlace l) 0x4C 0x4B (need (ltb (endB s l) (h .n)) 4 x))
     (need-under (ltb (endA s l) (endB s l)) 4 _ _ (λ t. ap (λ (q : Bool). need q 4 (need (leb 1 (linkWeight s l)) 5 (need (leb (linkWeight s l) (h .wmax)) 5 0))) (sym (in-order t)))))
 
 pub ruleset link-turns = (turn-taken, turn-refused, turn-done, ranked-more, link-number)

@@ -5,8 +5,8 @@ use layout::end_b;
 use layout::header;
 use layout::home_place;
 use layout::home_topology;
+use layout::link_fields;
 use layout::link_place;
-use layout::link_weight;
 use layout::row_place;
 use layout::row_weight;
 use rules::Network;
@@ -43,18 +43,17 @@ fn links(file: &[u8], net: Network) -> Verdict
     let mut l = 0;
     while l < m {
         let place = link_place(l);
-        let a = end_a(file, l);
-        let b = end_b(file, l);
-        let rank = recordrules::rank(a, b);
+        let link = link_fields(file, l);
+        let rank = recordrules::rank(link.a, link.b);
         let number = recordrules::link(
             net,
-            byte(file, place),
-            byte(file, place + 1),
+            link.x,
+            link.y,
             last,
             rank,
-            a,
-            b,
-            link_weight(file, l),
+            link.a,
+            link.b,
+            link.weight,
         );
         if number != 0 {
             return Verdict::Refused { number, place };

@@ -1,15 +1,29 @@
--- A record's fields, stored one after the other, are the record; home records in turn are all of them.
-use mathlib.Core.Path.{_≡_, refl}
+-- A record's fields, read together; fields stored one after the other are the record; home records in turn are all of them.
+use mathlib.Core.Path.{_≡_, refl, _∙_}
 use mathlib.Core.List.{List, [], _∷_, _++_}
 use Prim.Native.Nat.{ℕ, _+_, _<_}
 use native.Mathlib.Omega.{arith}
 use lib.ListN.{getD}
 use Rattle.rules.specs.declared.Network.{Network}
-use Rattle.rules.specs.Limits.{homePlace}
-use Rattle.rules.specs.File.{bytes2, headerBytes}
+use Rattle.rules.specs.Limits.{linkPlace, homePlace}
+use Rattle.rules.specs.File.{bytes2, headerBytes, two, endA, endB, linkWeight}
 use Rattle.slices.specs.Stores.{put}
 use Rattle.slices.proofs.Stores.{put-then, Storing, storing-none, storing-done, storing-more}
+use Rattle.layout.specs.Fields.{LinkAt}
 use Rattle.layout.specs.Records.{linkRecord, homeRecord, homeOf, rowHead}
+
+-- ---- fields read
+
+pub fields-there : (s : List ℕ) (l at x y a b w : ℕ) → at ≡ linkPlace l → x ≡ getD s at 0 → y ≡ getD s (at + 1) 0 → a ≡ getD s (at + 2) 0 → b ≡ getD s (at + 3) 0 → w ≡ two s (at + 4)
+    → LinkAt s l (record { x = x; y = y; a = a; b = b; weight = w })
+unfolding endA endB linkWeight
+fields-there s l at x y a b w e ex ey ea eb ew = record { first = ex ∙ rw e; second = ey ∙ rw e; end-a = ea ∙ rw e; end-b = eb ∙ rw e; weight = ew ∙ rw e }
+
+pub fields-each : (s : List ℕ) (l at x y a b w : ℕ) → at ≡ linkPlace l → x ≡ getD s at 0 → y ≡ getD s (at + 1) 0 → a ≡ endA s l → b ≡ endB s l → w ≡ linkWeight s l
+    → LinkAt s l (record { x = x; y = y; a = a; b = b; weight = w })
+fields-each s l at x y a b w e ex ey ea eb ew = record { first = ex ∙ rw e; second = ey ∙ rw e; end-a = ea; end-b = eb; weight = ew }
+
+-- ---- records stored
 
 pub marked-put : (d e e′ : List ℕ) (at x y z : ℕ) → e ≡ put d at (x ∷ y ∷ []) → e′ ≡ put e (at + 2) (z ∷ []) → e′ ≡ put d at (x ∷ y ∷ z ∷ [])
 marked-put d e e′ at x y z p q = put-then d e e′ at (at + 2) (x ∷ y ∷ []) (z ∷ []) p q refl
@@ -22,15 +36,13 @@ header-put d e e′ e″ f h p q r s =
     let two = put-then d e′ e″ 0 5 (0x4E ∷ 0x57 ∷ h .n ∷ bytes2 (h .m)) (h .k ∷ []) one r refl in
     put-then d e″ f 0 6 (0x4E ∷ 0x57 ∷ h .n ∷ (bytes2 (h .m) ++ (h .k ∷ []))) (bytes2 (h .wmax)) two s refl
 
-pub link-put : (d e e′ e″ : List ℕ) (at a b w : ℕ) → e ≡ put d at (0x4C ∷ 0x4B ∷ a ∷ []) → e′ ≡ put e (at + 3) (b ∷ []) → e″ ≡ put e′ (at + 4) (bytes2 w)
-    → e″ ≡ put d at (linkRecord a b w)
+pub link-put : (d e e′ : List ℕ) (at a b w : ℕ) → e ≡ put d at (0x4C ∷ 0x4B ∷ a ∷ b ∷ []) → e′ ≡ put e (at + 4) (bytes2 w) → e′ ≡ put d at (linkRecord a b w)
 unfolding linkRecord
-link-put d e e′ e″ at a b w p q r =
-    put-then d e′ e″ at (at + 4) (0x4C ∷ 0x4B ∷ a ∷ b ∷ []) (bytes2 w) (put-then d e e′ at (at + 3) (0x4C ∷ 0x4B ∷ a ∷ []) (b ∷ []) p q refl) r refl
+link-put d e e′ at a b w p q = put-then d e e′ at (at + 4) (0x4C ∷ 0x4B ∷ a ∷ b ∷ []) (bytes2 w) p q refl
 
-pub home-put : (d e e′ : List ℕ) (at v t : ℕ) → e ≡ put d at (0x48 ∷ 0x4D ∷ v ∷ []) → e′ ≡ put e (at + 3) (t ∷ []) → e′ ≡ put d at (homeRecord v t)
+pub home-put : (d e : List ℕ) (at v t : ℕ) → e ≡ put d at (0x48 ∷ 0x4D ∷ v ∷ t ∷ []) → e ≡ put d at (homeRecord v t)
 unfolding homeRecord
-home-put d e e′ at v t p q = put-then d e e′ at (at + 3) (0x48 ∷ 0x4D ∷ v ∷ []) (t ∷ []) p q refl
+home-put d e at v t p = p
 
 pub head-put : (d e : List ℕ) (at t : ℕ) → e ≡ put d at (0x42 ∷ 0x57 ∷ t ∷ []) → e ≡ put d at (rowHead t)
 unfolding rowHead

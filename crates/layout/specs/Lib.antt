@@ -1,2 +1,3 @@
--- The records of a file.
+-- The records of a file, and their fields.
+pub mod Fields
 pub mod Records

@@ -6,10 +6,21 @@ pub mod record; // record.rt: the records as bytes
 use rules::Network;
 use slices::byte;
 use slices::two;
+use slices::within;
 ghost use mathlib.Core.Path.{_≡_};
 ghost use Prim.Native.Nat.{_<_};
 ghost use Rattle.rules.specs.Limits.{linkPlace, homePlace, rowPlace};
 ghost use Rattle.rules.specs.File.{headerOf, endA, endB, linkWeight, homeTopology, rowWeight};
+ghost use Rattle.layout.specs.Fields.{LinkAt};
+
+// A link's record: the two bytes of its mark, its ends, its weight in topology 0.
+pub struct LinkFields {
+    pub x: u8,
+    pub y: u8,
+    pub a: u8,
+    pub b: u8,
+    pub weight: u16,
+}
 
 // ---- places
 
@@ -74,6 +85,31 @@ pub fn link_weight(file: &[u8], l: usize) -> u16
     ensures { λ r. ⌜ r ≡ linkWeight (now (file .entry)) l ⌝ }
 {
     two(file, link_place(l) + 4)
+}
+
+// All of link l's record. One test does for all its bytes where the file reaches that far.
+// Rules out: the ends exchanged; the weight of the link after.
+pub fn link_fields(file: &[u8], l: usize) -> LinkFields
+    requires { ⌜ l < 16777216 ⌝ }
+    ensures { λ r. ⌜ LinkAt (now (file .entry)) l r ⌝ }
+{
+    let at = link_place(l);
+    if at + 5 < file.len() {
+        return LinkFields {
+            x: within(file, at),
+            y: within(file, at + 1),
+            a: within(file, at + 2),
+            b: within(file, at + 3),
+            weight: two(file, at + 4),
+        };
+    }
+    LinkFields {
+        x: byte(file, at),
+        y: byte(file, at + 1),
+        a: end_a(file, l),
+        b: end_b(file, l),
+        weight: link_weight(file, l),
+    }
 }
 
 // Node v's home.

@@ -3,6 +3,7 @@
 use crate::home_place;
 use rules::Network;
 use slices::store::byte;
+use slices::store::four;
 use slices::store::number;
 use slices::store::two;
 ghost use mathlib.Core.Path.{_≡_};
@@ -40,8 +41,7 @@ pub fn link(file: &mut [u8], at: usize, a: u8, b: u8, w: u16)
     requires { ⌜ at < 134217728 ⌝ }
     ensures { λ _. ⌜ now (file .exit) ≡ put (now (file .entry)) at (linkRecord a b w) ⌝ }
 {
-    marked(file, at, 0x4C, 0x4B, a);
-    byte(file, at + 3, b);
+    four(file, at, 0x4C, 0x4B, a, b);
     number(file, at + 4, w);
 }
 
@@ -51,8 +51,7 @@ pub fn home(file: &mut [u8], at: usize, v: u8, topology: u8)
     requires { ⌜ at < 268435456 ⌝ }
     ensures { λ _. ⌜ now (file .exit) ≡ put (now (file .entry)) at (homeRecord v topology) ⌝ }
 {
-    marked(file, at, 0x48, 0x4D, v);
-    byte(file, at + 3, topology);
+    four(file, at, 0x48, 0x4D, v, topology);
 }
 
 // The start of a row: its mark and its topology. Its weights follow, two bytes each.

@@ -26,26 +26,11 @@ loop-holds c = (search needs, turn-none _, ranked-none _)
 link-place-requires : tie.Need-link-place-requires Inv-loop μ-loop
 link-place-requires c κs = omega arith
 
-end-a-requires : tie.Need-end-a-requires Inv-loop μ-loop
-end-a-requires c κs = omega arith
-
-end-b-requires : tie.Need-end-b-requires Inv-loop μ-loop
-end-b-requires c κs = omega arith
+link-fields-requires : tie.Need-link-fields-requires Inv-loop μ-loop
+link-fields-requires c κs = omega arith
 
 rank-requires : tie.Need-rank-requires Inv-loop μ-loop
 rank-requires c κs = omega arith
-
-byte-requires : tie.Need-byte-requires Inv-loop μ-loop
-byte-requires c κs = omega arith
-
-add-byte : tie.Need-add-byte Inv-loop μ-loop
-add-byte c = omega arith
-
-byte-requires-2 : tie.Need-byte-requires-2 Inv-loop μ-loop
-byte-requires-2 c κs = omega arith
-
-link-weight-requires : tie.Need-link-weight-requires Inv-loop μ-loop
-link-weight-requires c κs = omega arith
 
 link-requires : tie.Need-link-requires Inv-loop μ-loop
 link-requires c κs = omega arith
@@ -74,13 +59,8 @@ links-spec =
     cast-m
     loop-holds
     link-place-requires
-    end-a-requires
-    end-b-requires
+    link-fields-requires
     rank-requires
-    byte-requires
-    add-byte
-    byte-requires-2
-    link-weight-requires
     link-requires
     returns
     add-l

@@ -1,16 +1,10 @@
-use borrow.Author.Needs.{needs}
 use Rattle.layout.proofs.Records.{records}
+use borrow.Author.Needs.{needs}
 use Rattle.layout.proofs.record.home.Statement.{statement}
 use Rattle.layout.proofs.record.home.Tie as tie
 
-marked-requires : tie.Need-marked-requires
-marked-requires c κs = search needs
-
-add-byte : tie.Need-add-byte
-add-byte c = search needs
-
-byte-requires : tie.Need-byte-requires
-byte-requires c κs = search needs
+four-requires : tie.Need-four-requires
+four-requires c κs = search needs
 
 same-length : tie.Need-same-length
 same-length c = search needs
@@ -19,4 +13,4 @@ returns : tie.Need-returns
 returns c = search records
 
 pub home-spec : {M : Type 1} → statement M
-home-spec = tie.close (tie.spec marked-requires add-byte byte-requires same-length returns)
+home-spec = tie.close (tie.spec four-requires same-length returns)

@@ -1,16 +1,10 @@
-use borrow.Author.Needs.{needs}
 use Rattle.layout.proofs.Records.{records}
+use borrow.Author.Needs.{needs}
 use Rattle.layout.proofs.record.link.Statement.{statement}
 use Rattle.layout.proofs.record.link.Tie as tie
 
-marked-requires : tie.Need-marked-requires
-marked-requires c κs = search needs
-
-add-byte : tie.Need-add-byte
-add-byte c = search needs
-
-byte-requires : tie.Need-byte-requires
-byte-requires c κs = search needs
+four-requires : tie.Need-four-requires
+four-requires c κs = search needs
 
 add-number : tie.Need-add-number
 add-number c = search needs
@@ -25,13 +19,4 @@ returns : tie.Need-returns
 returns c = search records
 
 pub link-spec : {M : Type 1} → statement M
-link-spec =
-    tie.close
-    (tie.spec
-    marked-requires
-    add-byte
-    byte-requires
-    add-number
-    number-requires
-    same-length
-    returns)
+link-spec = tie.close (tie.spec four-requires add-number number-requires same-length returns)
