@@ -2,10 +2,9 @@
 // by which each topology's rules are judged in turn (`topologyrules`). `check` promises 01's verdict on any bytes: refusals 1
 // to 6, 13, then 7 and 8 by topology.
 use judgement::judge;
-use layout::end_a;
-use layout::end_b;
 use layout::header;
 use layout::home_topology;
+use layout::link_fields;
 use needs::need_set;
 use rules::Network;
 use rules::Verdict;
@@ -33,10 +32,9 @@ pub fn neighbour_words(file: &[u8], m: u16) -> [u32; Network::MOST_NODES]
     let mut nb = [0u32; Network::MOST_NODES];
     let mut l: u16 = 0;
     while l < m {
-        let a = end_a(file, l as usize);
-        let b = end_b(file, l as usize);
-        enter(&mut nb, a, b);
-        enter(&mut nb, b, a);
+        let link = link_fields(file, l as usize);
+        enter(&mut nb, link.a, link.b);
+        enter(&mut nb, link.b, link.a);
         l += 1;
     }
     nb

@@ -1,10 +1,8 @@
 // The file of a set, from a graph's file and the homes of its nodes: the graph's links, the homes, and rows that repeat topology 0's
 // weights on the links that the homes leave normal. `put_set` promises the lent file with exactly those bytes at its front. A byte past
 // the file's end is stored nowhere, so no function here asks for room; that there is room is for a verdict to say.
-use layout::end_a;
-use layout::end_b;
+use layout::link_fields;
 use layout::link_place;
-use layout::link_weight;
 use layout::record;
 use layout::row_place;
 use rules::Network;
@@ -24,9 +22,8 @@ fn put_links(graph: &[u8], file: &mut [u8], m: u16)
     let mut x: u16 = 0;
     while x < m {
         let l = x as usize;
-        let a = end_a(graph, l);
-        let b = end_b(graph, l);
-        record::link(file, link_place(l), a, b, link_weight(graph, l));
+        let link = link_fields(graph, l);
+        record::link(file, link_place(l), link.a, link.b, link.weight);
         x += 1;
     }
 }
@@ -36,13 +33,16 @@ fn weight_in(graph: &[u8], homes: &[u8], i: u8, l: usize) -> u16
     requires { ⌜ l < 65536 ⌝ }
     ensures { λ r. ⌜ r ≡ weightIn (now (graph .entry)) (now (homes .entry)) i l ⌝ }
 {
-    if byte(homes, end_a(graph, l) as usize) == i {
+    let link = link_fields(graph, l);
+    let home_a = byte(homes, link.a as usize);
+    let home_b = byte(homes, link.b as usize);
+    if home_a == i {
         return 0;
     }
-    if byte(homes, end_b(graph, l) as usize) == i {
+    if home_b == i {
         return 0;
     }
-    link_weight(graph, l)
+    link.weight
 }
 
 // The m weights of topology i's row.

@@ -15,17 +15,11 @@ abbrev μ-loop : tie.MeasureT-loop
 loop-holds : tie.Need-loop-holds Inv-loop μ-loop
 loop-holds c = (search needs, search linked-none)
 
-cast-end-a : tie.Need-cast-end-a Inv-loop μ-loop
-cast-end-a c = search needs
+cast-link-fields : tie.Need-cast-link-fields Inv-loop μ-loop
+cast-link-fields c = search needs
 
-end-a-requires : tie.Need-end-a-requires Inv-loop μ-loop
-end-a-requires c κs = search needs
-
-cast-end-b : tie.Need-cast-end-b Inv-loop μ-loop
-cast-end-b c = search needs
-
-end-b-requires : tie.Need-end-b-requires Inv-loop μ-loop
-end-b-requires c κs = search needs
+link-fields-requires : tie.Need-link-fields-requires Inv-loop μ-loop
+link-fields-requires c κs = search needs
 
 enter-requires : tie.Need-enter-requires Inv-loop μ-loop
 enter-requires c κs = (search ends-low, search ends-low)
@@ -52,10 +46,8 @@ neighbour-words-spec =
     Inv-loop
     μ-loop
     loop-holds
-    cast-end-a
-    end-a-requires
-    cast-end-b
-    end-b-requires
+    cast-link-fields
+    link-fields-requires
     enter-requires
     enter-requires-2
     add-l

@@ -19,17 +19,11 @@ loop-holds c = search storing-none
 cast-l : tie.Need-cast-l Inv-loop μ-loop
 cast-l c = search needs
 
-end-a-requires : tie.Need-end-a-requires Inv-loop μ-loop
-end-a-requires c κs = search needs
-
-end-b-requires : tie.Need-end-b-requires Inv-loop μ-loop
-end-b-requires c κs = search needs
+link-fields-requires : tie.Need-link-fields-requires Inv-loop μ-loop
+link-fields-requires c κs = search needs
 
 link-place-requires : tie.Need-link-place-requires Inv-loop μ-loop
 link-place-requires c κs = search needs
-
-link-weight-requires : tie.Need-link-weight-requires Inv-loop μ-loop
-link-weight-requires c κs = search needs
 
 link-requires : tie.Need-link-requires Inv-loop μ-loop
 link-requires c κs = search needs
@@ -57,10 +51,8 @@ put-links-spec =
     μ-loop
     loop-holds
     cast-l
-    end-a-requires
-    end-b-requires
+    link-fields-requires
     link-place-requires
-    link-weight-requires
     link-requires
     add-x
     loop-less

@@ -3,8 +3,8 @@ use borrow.Author.Needs.{needs}
 use Rattle.filling.proofs.weight_in.Statement.{statement}
 use Rattle.filling.proofs.weight_in.Tie as tie
 
-end-a-requires : tie.Need-end-a-requires
-end-a-requires c κs = search needs
+link-fields-requires : tie.Need-link-fields-requires
+link-fields-requires c κs = search needs
 
 cast-byte : tie.Need-cast-byte
 cast-byte c = search needs
@@ -12,23 +12,17 @@ cast-byte c = search needs
 byte-requires : tie.Need-byte-requires
 byte-requires c κs = search needs
 
-returns : tie.Need-returns
-returns c = search weight-a
-
-end-b-requires : tie.Need-end-b-requires
-end-b-requires c κs = search needs
-
 cast-byte-2 : tie.Need-cast-byte-2
 cast-byte-2 c = search needs
 
 byte-requires-2 : tie.Need-byte-requires-2
 byte-requires-2 c κs = search needs
 
+returns : tie.Need-returns
+returns c = search weight-a
+
 returns-2 : tie.Need-returns-2
 returns-2 c = search weight-b
-
-link-weight-requires : tie.Need-link-weight-requires
-link-weight-requires c κs = search needs
 
 returns-3 : tie.Need-returns-3
 returns-3 c = search weight-normal
@@ -37,13 +31,11 @@ pub weight-in-spec : {M : Type 1} → statement M
 weight-in-spec =
     tie.close
     (tie.spec
-    end-a-requires
+    link-fields-requires
     cast-byte
     byte-requires
-    returns
-    end-b-requires
     cast-byte-2
     byte-requires-2
+    returns
     returns-2
-    link-weight-requires
     returns-3)
