@@ -22,6 +22,7 @@ use Rattle.rules.specs.Entries.Entry.{onAccept, Promise}
 use Rattle.rules.specs.Entries.Build.{builtFrom, buildEntry}
 use Rattle.rules.proofs.Ground.Choices.{need-yes, need-no, need-ok, refuse-no, refuse-ok, refuse-zero, then-ok, then-no, then-first, then-second, then-assoc}
 use Rattle.rules.proofs.File.SetOfBytes.{net-held}
+use Rattle.rules.proofs.File.Records.{file-meets}
 use Rattle.rules.proofs.File.Accepted as accepted
 use Rattle.rules.proofs.Building.BuildNumber.{zero-exactly}
 use Rattle.rules.proofs.Entries.Determined.{length-one}
@@ -31,7 +32,7 @@ use Rattle.checker.proofs.Graph.{words-of, accepted-few}
 use Rattle.firstfit.specs.Fit.{allSpared, Placed}
 use Rattle.firstfit.proofs.Fitted.{all-spared-same, passed-cap, all-placed, placed-homes}
 use Rattle.slices.specs.Stores.{put}
-use Rattle.filling.specs.Filled.{filledFile}
+use Rattle.filling.specs.Filled.{EndsBelow, filledFile}
 use Rattle.builder.specs.Answer.{Gives}
 use Rattle.filling.proofs.Written.{written-is}
 
@@ -65,6 +66,10 @@ module _ (s homes d : List ℕ) (net set : Network) (k bytes : ℕ) (en : net �
   room-is : (v : Verdict) → v ≡ refuse (need (leb bytes (length d)) 14 0) 0 → v ≡ needRoom (fileLength (filled (setOf s) homes .net)) d
   unfolding needRoom
   room-is v ev = ev ∙ rw long-is
+
+  -- both ends of a link have homes
+  pub ends-homed : judge s ≡ Accepted → EndsBelow s (set .m) (length homes)
+  ends-homed a = rw (es, el, en) (record { a-below = λ l h. let e = file-meets s a .links l h .ends in omega arith; b-below = λ l h. file-meets s a .links l h .ends .1 })
 
   pub no-room : (v : Verdict) (number place : ℕ) → v ≡ refuse (need (leb bytes (length d)) 14 0) 0 → v ≡ Refused number place
       → Gives (needRoom (fileLength (filled (setOf s) homes .net)) d) (filled (setOf s) homes) d (long.Refused number place) d

@@ -33,6 +33,7 @@ ghost use Rattle.builder.specs.Answer.{FilledIn, BuiltIn};
 
 // The set with these homes, written where the file has room for it.
 fn finish(graph: &[u8], net: Network, homes: &[u8], file: &mut [u8]) -> LengthAnswer
+    requires { ⌜ judge (now graph) ≡ Accepted ⌝ }
     requires { ⌜ net ≡ headerOf (now graph) ⌝ }
     requires { ⌜ length (now homes) ≡ net .n ⌝ }
     ensures { λ r. ⌜ FilledIn (now (graph .entry)) (now (homes .entry)) (now (file .entry)) r (now (file .exit)) ⌝ }

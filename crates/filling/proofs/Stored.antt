@@ -19,7 +19,7 @@ use Rattle.rules.proofs.Ground.Rows.{length-flat}
 use Rattle.slices.specs.Stores.{put}
 use Rattle.slices.proofs.Stores.{put-then, Storing, storing-more}
 use Rattle.layout.specs.Records.{linkRecord, homeRecord, homeOf, rowHead}
-use Rattle.filling.specs.Filled.{linkCopy, weightIn, filledBytes, filledRow, filledFile}
+use Rattle.filling.specs.Filled.{EndsBelow, linkCopy, weightIn, filledBytes, filledRow, filledFile}
 
 -- ---- links
 
@@ -29,6 +29,18 @@ unfolding linkPlace linkCopy linkRecord bytes2
 link-copied s d e e′ l m at a b w S g ep ea eb ew q = storing-more d e e′ 8 (linkCopy s) l m at 6 _ S g (λ i _. refl) (omega arith) (rw (ea, eb, ew)) q
 
 -- ---- rows
+
+pub a-homed : (s homes : List ℕ) (l a : ℕ) → a ≡ endA s l → endA s l < length homes → a < length homes
+a-homed s homes l a e h = rw e h
+
+pub b-homed : (s homes : List ℕ) (l b : ℕ) → b ≡ endB s l → endB s l < length homes → b < length homes
+b-homed s homes l b e h = rw e h
+
+pub a-below : (s homes : List ℕ) (x m l : ℕ) → EndsBelow s m (length homes) → x < m → l ≡ x → endA s l < length homes
+a-below s homes x m l E h e = rw e (E .a-below x h)
+
+pub b-below : (s homes : List ℕ) (x m l : ℕ) → EndsBelow s m (length homes) → x < m → l ≡ x → endB s l < length homes
+b-below s homes x m l E h e = rw e (E .b-below x h)
 
 pub weight-a : (s homes : List ℕ) (i l a x : ℕ) → a ≡ endA s l → x ≡ getD homes a 0 → x ≡ i → 0 ≡ weightIn s homes i l
 unfolding weightIn onNormal classBy

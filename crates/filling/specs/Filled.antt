@@ -1,6 +1,6 @@
 -- The bytes of a set that is filled: links as in the graph's file, homes as they are given, rows by class.
 use mathlib.Core.List.{List, _++_}
-use Prim.Native.Nat.{ℕ, suc}
+use Prim.Native.Nat.{ℕ, suc, _<_}
 use lib.Dec.{eqb}
 use lib.ListN.{getD}
 use Rattle.rules.specs.declared.Network.{Network}
@@ -10,6 +10,11 @@ use Rattle.rules.specs.File.{bytes2, headerBytes, endA, endB, linkWeight}
 use Rattle.rules.specs.Isolation.{classBy}
 use Rattle.rules.specs.Building.{onNormal}
 use Rattle.layout.specs.Records.{linkRecord, homeOf, rowHead}
+
+-- both ends of each of the first m links are below n
+pub record EndsBelow (s : List ℕ) (m n : ℕ) : Type 0 where
+  pub a-below : (l : ℕ) → l < m → endA s l < n
+  pub b-below : (l : ℕ) → l < m → endB s l < n
 
 -- link l's record, as in the graph's file
 unfoldable pub linkCopy : List ℕ → ℕ → List ℕ

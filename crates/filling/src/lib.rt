@@ -6,14 +6,16 @@ use layout::link_place;
 use layout::record;
 use layout::row_place;
 use rules::Network;
-use slices::byte;
 use slices::store::number;
+use slices::within;
 ghost use mathlib.Core.Path.{_≡_};
 ghost use Prim.Native.Nat.{_+_, _<_};
 ghost use Rattle.rules.specs.Basics.{flat};
+ghost use lib.ListN.{length};
 ghost use Rattle.rules.specs.Limits.{linkPlace, rowPlace};
+ghost use Rattle.rules.specs.File.{endA, endB};
 ghost use Rattle.slices.specs.Stores.{put};
-ghost use Rattle.filling.specs.Filled.{linkCopy, weightIn, filledBytes, filledRow, filledFile};
+ghost use Rattle.filling.specs.Filled.{EndsBelow, linkCopy, weightIn, filledBytes, filledRow, filledFile};
 
 // The links, as in the graph.
 fn put_links(graph: &[u8], file: &mut [u8], m: u16)
@@ -31,11 +33,12 @@ fn put_links(graph: &[u8], file: &mut [u8], m: u16)
 // Link l's weight in topology i: topology 0's where neither end is isolated.
 fn weight_in(graph: &[u8], homes: &[u8], i: u8, l: usize) -> u16
     requires { ⌜ l < 65536 ⌝ }
+    requires { ⌜ (endA (now graph) l < length (now homes)) × (endB (now graph) l < length (now homes)) ⌝ }
     ensures { λ r. ⌜ r ≡ weightIn (now (graph .entry)) (now (homes .entry)) i l ⌝ }
 {
     let link = link_fields(graph, l);
-    let home_a = byte(homes, link.a as usize);
-    let home_b = byte(homes, link.b as usize);
+    let home_a = within(homes, link.a as usize);
+    let home_b = within(homes, link.b as usize);
     if home_a == i {
         return 0;
     }
@@ -48,6 +51,7 @@ fn weight_in(graph: &[u8], homes: &[u8], i: u8, l: usize) -> u16
 // The m weights of topology i's row.
 fn put_weights(graph: &[u8], homes: &[u8], file: &mut [u8], m: u16, at: usize, i: u8)
     requires { ⌜ at < 1073741824 ⌝ }
+    requires { ⌜ EndsBelow (now graph) m (length (now homes)) ⌝ }
     ensures { λ _. ⌜ now (file .exit) ≡ put (now (file .entry)) at (flat (filledBytes (now (graph .entry)) (now (homes .entry)) i) m) ⌝ }
 {
     let mut x: u16 = 0;
@@ -63,6 +67,7 @@ fn put_weights(graph: &[u8], homes: &[u8], file: &mut [u8], m: u16, at: usize, i
 fn put_row(graph: &[u8], homes: &[u8], file: &mut [u8], m: u16, at: usize, j: u8)
     requires { ⌜ at < 536870912 ⌝ }
     requires { ⌜ j < 255 ⌝ }
+    requires { ⌜ EndsBelow (now graph) m (length (now homes)) ⌝ }
     ensures { λ _. ⌜ now (file .exit) ≡ put (now (file .entry)) at (filledRow (now (graph .entry)) (now (homes .entry)) m j) ⌝ }
 {
     let i = j + 1;
@@ -71,6 +76,7 @@ fn put_row(graph: &[u8], homes: &[u8], file: &mut [u8], m: u16, at: usize, j: u8
 }
 
 fn put_rows(graph: &[u8], homes: &[u8], file: &mut [u8], net: Network, k: u8)
+    requires { ⌜ EndsBelow (now graph) (net .m) (length (now homes)) ⌝ }
     ensures { λ _. ⌜ now (file .exit) ≡ put (now (file .entry)) (rowPlace net 0) (flat (filledRow (now (graph .entry)) (now (homes .entry)) (net .m)) k) ⌝ }
 {
     let mut j: u8 = 0;
@@ -85,6 +91,7 @@ fn put_rows(graph: &[u8], homes: &[u8], file: &mut [u8], net: Network, k: u8)
 // Rules out: a weight in a row for a link with an isolated end `weight_on_a_restricted_link`; the graph's own header, with k =
 // 0.
 pub fn put_set(graph: &[u8], homes: &[u8], file: &mut [u8], net: Network)
+    requires { ⌜ EndsBelow (now graph) (net .m) (length (now homes)) ⌝ }
     ensures { λ _. ⌜ now (file .exit) ≡ put (now (file .entry)) 0 (filledFile (now (graph .entry)) (now (homes .entry)) net) ⌝ }
 {
     record::header(file, net);

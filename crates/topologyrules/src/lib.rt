@@ -40,16 +40,16 @@ fn reach(nb: &[u32], bb: u32, root: u8) -> u32
 {
     let mut left = removing(bb, root);
     let mut waiting = only(root);
-    while left != 0 {
-        if waiting == 0 {
-            return minus(bb, left);
+    while waiting != 0 {
+        if left == 0 {
+            return bb;
         }
         let v = lowest(waiting);
         let found = both(word(nb, v as usize), left);
         left = minus(left, found);
         waiting = either(removing(waiting, v), found);
     }
-    bb
+    minus(bb, left)
 }
 
 // The backbone is non-empty and connected by normal links.

@@ -23,7 +23,7 @@ row-place-requires : tie.Need-row-place-requires Inv-loop μ-loop
 row-place-requires c κs = search needs
 
 put-row-requires : tie.Need-put-row-requires Inv-loop μ-loop
-put-row-requires c κs = search needs
+put-row-requires c κs = (search needs, (search needs, search needs))
 
 add-j : tie.Need-add-j Inv-loop μ-loop
 add-j c = search needs

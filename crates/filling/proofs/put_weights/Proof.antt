@@ -1,5 +1,5 @@
 use Prim.Native.Nat.{_-_}
-use Rattle.filling.proofs.Stored.{weight-filled}
+use Rattle.filling.proofs.Stored.{a-below, b-below, weight-filled}
 use Rattle.filling.specs.Filled.{filledBytes}
 use Rattle.slices.proofs.Stores.{Storing, storing-done, storing-none}
 use borrow.Author.Needs.{needs}
@@ -19,7 +19,7 @@ cast-l : tie.Need-cast-l Inv-loop μ-loop
 cast-l c = search needs
 
 weight-in-requires : tie.Need-weight-in-requires Inv-loop μ-loop
-weight-in-requires c κs = search needs
+weight-in-requires c κs = (search needs, (search a-below, search b-below))
 
 mul-number : tie.Need-mul-number Inv-loop μ-loop
 mul-number c = search needs

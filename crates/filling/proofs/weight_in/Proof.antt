@@ -1,4 +1,4 @@
-use Rattle.filling.proofs.Stored.{weight-a, weight-b, weight-normal}
+use Rattle.filling.proofs.Stored.{a-homed, b-homed, weight-a, weight-b, weight-normal}
 use borrow.Author.Needs.{needs}
 use Rattle.filling.proofs.weight_in.Statement.{statement}
 use Rattle.filling.proofs.weight_in.Tie as tie
@@ -6,17 +6,17 @@ use Rattle.filling.proofs.weight_in.Tie as tie
 link-fields-requires : tie.Need-link-fields-requires
 link-fields-requires c κs = search needs
 
-cast-byte : tie.Need-cast-byte
-cast-byte c = search needs
+cast-within : tie.Need-cast-within
+cast-within c = search needs
 
-byte-requires : tie.Need-byte-requires
-byte-requires c κs = search needs
+within-requires : tie.Need-within-requires
+within-requires c κs = search a-homed
 
-cast-byte-2 : tie.Need-cast-byte-2
-cast-byte-2 c = search needs
+cast-within-2 : tie.Need-cast-within-2
+cast-within-2 c = search needs
 
-byte-requires-2 : tie.Need-byte-requires-2
-byte-requires-2 c κs = search needs
+within-requires-2 : tie.Need-within-requires-2
+within-requires-2 c κs = search b-homed
 
 returns : tie.Need-returns
 returns c = search weight-a
@@ -32,10 +32,10 @@ weight-in-spec =
     tie.close
     (tie.spec
     link-fields-requires
-    cast-byte
-    byte-requires
-    cast-byte-2
-    byte-requires-2
+    cast-within
+    within-requires
+    cast-within-2
+    within-requires-2
     returns
     returns-2
     returns-3)

@@ -20,11 +20,8 @@ only-requires c κs = search root-low
 loop-holds : tie.Need-loop-holds Inv-loop μ-loop
 loop-holds c = search grow-start
 
-minus-requires : tie.Need-minus-requires Inv-loop μ-loop
-minus-requires c κs = search needs
-
 returns : tie.Need-returns Inv-loop μ-loop
-returns c = search grow-done
+returns c = search grow-whole
 
 lowest-requires : tie.Need-lowest-requires Inv-loop μ-loop
 lowest-requires c κs = search needs
@@ -38,8 +35,8 @@ word-requires c κs = search needs
 both-requires : tie.Need-both-requires Inv-loop μ-loop
 both-requires c κs = search needs
 
-minus-requires-2 : tie.Need-minus-requires-2 Inv-loop μ-loop
-minus-requires-2 c κs = search needs
+minus-requires : tie.Need-minus-requires Inv-loop μ-loop
+minus-requires c κs = search needs
 
 removing-requires-2 : tie.Need-removing-requires-2 Inv-loop μ-loop
 removing-requires-2 c κs = search waiting-low
@@ -53,8 +50,11 @@ loop-less c = search grow-less
 loop-again : tie.Need-loop-again Inv-loop μ-loop
 loop-again c = search grow-more
 
+minus-requires-2 : tie.Need-minus-requires-2 Inv-loop μ-loop
+minus-requires-2 c κs = search needs
+
 returns-2 : tie.Need-returns-2 Inv-loop μ-loop
-returns-2 c = search grow-whole
+returns-2 c = search grow-done
 
 pub reach-spec : {M : Type 1} → statement M
 reach-spec =
@@ -65,15 +65,15 @@ reach-spec =
     removing-requires
     only-requires
     loop-holds
-    minus-requires
     returns
     lowest-requires
     cast-word
     word-requires
     both-requires
-    minus-requires-2
+    minus-requires
     removing-requires-2
     either-requires
     loop-less
     loop-again
+    minus-requires-2
     returns-2)
