@@ -8,7 +8,7 @@ use native.Mathlib.Omega.{arith}
 use lib.Count.{ones}
 use lib.Dec.{eqb, ltb, leb}
 use lib.ListN.{getD, set}
-use borrow.Author.Tests.{eqb-true, eq-eqb, ne-eqb, ltb-true, lt-ltb, le-leb, lt-leb, not-true}
+use borrow.Author.Tests.{eqb-true, eqb-false, eq-eqb, ne-eqb, ltb-true, lt-ltb, le-leb, lt-leb, not-true}
 use Rattle.rules.specs.Basics.{need, all}
 use Rattle.rules.specs.Sets.{Walk}
 use Rattle.rules.proofs.Ground.Choices.{and-of, and-left, and-right, or-left, or-right, or-cases, clash, false-of}
@@ -25,7 +25,7 @@ use Rattle.topologyrules.proofs.Same.{both-low}
 fewer-ones : (a b v : ℕ) → a < 2 ^ 32 → b < 2 ^ 32 → v < 32 → ((x : ℕ) → has a x ≡ true → has b x ≡ true) → has a v ≡ false → has b v ≡ true → ones a < ones b
 fewer-ones a b v fa fb l h out there = rw (ones-count 32 a fa, ones-count 32 b fb) (count-lt (has a) (has b) 32 v (λ x lx e. h x e) l out there)
 
--- ---- reach
+-- ---- joined
 
 -- the nodes of the backbone that are not left are joined to the root, and those that do not wait have been looked from
 pub record Growing (nb : List ℕ) (bb root left waiting : ℕ) : Type 0 where
@@ -187,37 +187,46 @@ module _ (nb : List ℕ) (bb root left waiting v : ℕ) (G : Growing nb bb root 
 
 module _ (nb : List ℕ) (bb root left waiting : ℕ) (G : Growing nb bb root left waiting) (R : bb < 2 ^ 32) (i : has bb root ≡ true) where
   -- the word is the whole backbone
-  pub grow-whole : left ≡ 0 → bb ≡ reachedWord nb bb root
+  pub grow-whole : left ≡ 0 → true ≡ eqb (reachedWord nb bb root) bb
   grow-whole z =
-      reached-one nb bb root bb (reachedWord nb bb root)
-      (record { fits = R; begun = i; sound = λ x e. G .sound x e (rw z (has-none x)); closed = λ y x p n. and-left (has bb x) (has (getD nb y 0) x) (and-right (has bb y) (has bb x && has (getD nb y 0) x) n) })
-      (reached-is nb bb root R i)
+      sym (eq-eqb (reachedWord nb bb root) bb
+      (reached-one nb bb root (reachedWord nb bb root) bb (reached-is nb bb root R i)
+      (record { fits = R; begun = i; sound = λ x e. G .sound x e (rw z (has-none x)); closed = λ y x p n. and-left (has bb x) (has (getD nb y 0) x) (and-right (has bb y) (has bb x && has (getD nb y 0) x) n) })))
 
   -- the word grows no longer
-  pub grow-done : (w : ℕ) → waiting ≡ 0 → w ≡ minus bb left → w ≡ reachedWord nb bb root
-  grow-done w z e =
-      reached-one nb bb root w (reachedWord nb bb root)
-      (record { fits = few; begun = there root i (G .begun); sound = λ x q. let p = of x q in G .sound x (p .0) (p .1); closed = λ y x q n. onward y x (of y q) n })
-      (reached-is nb bb root R i)
+  pub grow-done : waiting ≡ 0 → eqb left 0 ≡ eqb (reachedWord nb bb root) bb
+  grow-done z = go (eqb left 0) refl
     where
-      few : w < 2 ^ 32
-      few = rw e (minus-fits bb left R)
+      at : (x : ℕ) → x < 32 → has (minus bb left) x ≡ (has bb x && not (has left x))
+      at x l = has-minus bb left x (G .fits) l
 
-      at : (x : ℕ) → x < 32 → has w x ≡ (has bb x && not (has left x))
-      at x l = ap (λ (t : ℕ). has t x) e ∙ has-minus bb left x (G .fits) l
-
-      there : (x : ℕ) → has bb x ≡ true → has left x ≡ false → has w x ≡ true
+      there : (x : ℕ) → has bb x ≡ true → has left x ≡ false → has (minus bb left) x ≡ true
       there x b o = at x (has-bound 32 bb x R b) ∙ rw (b, o)
 
-      of : (x : ℕ) → has w x ≡ true → (has bb x ≡ true) × (has left x ≡ false)
+      of : (x : ℕ) → has (minus bb left) x ≡ true → (has bb x ≡ true) × (has left x ≡ false)
       of x q =
-          let p = sym (at x (has-bound 32 w x few q)) ∙ q in
+          let p = sym (at x (has-bound 32 (minus bb left) x (minus-fits bb left R) q)) ∙ q in
           (and-left (has bb x) (not (has left x)) p, not-true (has left x) (and-right (has bb x) (not (has left x)) p))
 
-      onward : (y x : ℕ) → (has bb y ≡ true) × (has left y ≡ false) → normal nb bb y x ≡ true → has w x ≡ true
+      onward : (y x : ℕ) → (has bb y ≡ true) × (has left y ≡ false) → normal nb bb y x ≡ true → has (minus bb left) x ≡ true
       onward y x p n =
           there x (and-left (has bb x) (has (getD nb y 0) x) (and-right (has bb y) (has bb x && has (getD nb y 0) x) n))
           (G .spread y x (p .0) (p .1) (rw z (has-none y)) n)
+
+      reached-part : reachedWord nb bb root ≡ minus bb left
+      reached-part =
+          reached-one nb bb root (reachedWord nb bb root) (minus bb left) (reached-is nb bb root R i)
+          (record { fits = minus-fits bb left R; begun = there root i (G .begun); sound = λ x q. let p = of x q in G .sound x (p .0) (p .1); closed = λ y x q n. onward y x (of y q) n })
+
+      -- a node that is left is in the backbone and not reached
+      short : (left ≡ 0 → ⊥) → reachedWord nb bb root ≡ bb → ⊥
+      short ne e =
+          let f = lowest-there left (lowestIn left) (G .fits) ne refl in
+          clash (has left (lowestIn left)) (f .1) (of (lowestIn left) (ap (λ (w : ℕ). has w (lowestIn left)) (sym reached-part ∙ e) ∙ G .inside (lowestIn left) (f .1)) .1)
+
+      go : (t : Bool) → eqb left 0 ≡ t → eqb left 0 ≡ eqb (reachedWord nb bb root) bb
+      go true e = e ∙ grow-whole (eqb-true left 0 e)
+      go false e = e ∙ sym (ne-eqb (reachedWord nb bb root) bb (short (eqb-false left 0 e)))
 
 -- ---- connected
 pub part-empty : (nb : List ℕ) (bb : ℕ) → bb ≡ 0 → false ≡ connectedBy nb bb
@@ -227,9 +236,9 @@ part-empty nb bb e = rw e
 pub root-in : (bb r : ℕ) → bb < 2 ^ 32 → (bb ≡ 0 → ⊥) → r ≡ lowestIn bb → has bb r ≡ true
 root-in bb r R ne e = lowest-there bb r R ne e .1
 
-pub part-full : (nb : List ℕ) (bb r w : ℕ) → (bb ≡ 0 → ⊥) → r ≡ lowestIn bb → w ≡ reachedWord nb bb r → eqb w bb ≡ connectedBy nb bb
+pub part-full : (nb : List ℕ) (bb r : ℕ) (t : Bool) → (bb ≡ 0 → ⊥) → r ≡ lowestIn bb → t ≡ eqb (reachedWord nb bb r) bb → t ≡ connectedBy nb bb
 unfolding connectedBy
-part-full nb bb r w ne er ew = rw (ne-eqb bb 0 ne, ew, er)
+part-full nb bb r t ne er et = et ∙ rw (ne-eqb bb 0 ne, er)
 
 -- ---- all_served
 

@@ -17,6 +17,7 @@ use words::size;
 ghost use mathlib.Core.Path.{_≡_};
 ghost use mathlib.Core.Bool.{true};
 ghost use Prim.Native.Nat.{_<_, _≤_};
+ghost use lib.Dec.{eqb};
 ghost use Rattle.words.specs.Word.{has};
 ghost use Rattle.topologyrules.specs.Entered.{entered};
 ghost use Rattle.topologyrules.specs.Topology.{backboneWord, reachedWord, connectedBy, allServed, numberBy};
@@ -32,24 +33,24 @@ pub fn backbone(n: u8, iso: u32) -> u32
     minus(firsts(n), iso)
 }
 
-// What normal links join to a node of the backbone. The word of reached nodes, the backbone without those that are left, grows
+// Normal links join all of the backbone to a node of it. The word of reached nodes, the backbone without those that are left, grows
 // from that node until it is the whole backbone, or until no node waits to be looked from.
-fn reach(nb: &[u32], bb: u32, root: u8) -> u32
+fn joined(nb: &[u32], bb: u32, root: u8) -> bool
     requires { ⌜ has bb root ≡ true ⌝ }
-    ensures { λ r. ⌜ r ≡ reachedWord (now (nb .entry)) bb root ⌝ }
+    ensures { λ r. ⌜ r ≡ eqb (reachedWord (now (nb .entry)) bb root) bb ⌝ }
 {
     let mut left = removing(bb, root);
     let mut waiting = only(root);
     while waiting != 0 {
         if left == 0 {
-            return bb;
+            return true;
         }
         let v = lowest(waiting);
         let found = both(word(nb, v as usize), left);
         left = minus(left, found);
         waiting = either(removing(waiting, v), found);
     }
-    minus(bb, left)
+    left == 0
 }
 
 // The backbone is non-empty and connected by normal links.
@@ -61,7 +62,7 @@ pub fn connected(nb: &[u32], bb: u32) -> bool
     if bb == 0 {
         return false;
     }
-    reach(nb, bb, lowest(bb)) == bb
+    joined(nb, bb, lowest(bb))
 }
 
 // Each isolated node has two neighbours in the backbone.
@@ -72,8 +73,8 @@ fn all_served(nb: &[u32], iso: u32, bb: u32, n: u8) -> bool
     let mut left = both(iso, firsts(n));
     while left != 0 {
         let v = lowest(left);
-        let joined = both(word(nb, v as usize), bb);
-        if size(joined) < 2 {
+        let near = both(word(nb, v as usize), bb);
+        if size(near) < 2 {
             return false;
         }
         left = removing(left, v);

@@ -9,11 +9,11 @@ returns c = search part-empty
 lowest-requires : tie.Need-lowest-requires
 lowest-requires c κs = search needs
 
-reach-requires : tie.Need-reach-requires
-reach-requires c κs = search root-in
+joined-requires : tie.Need-joined-requires
+joined-requires c κs = search root-in
 
 returns-2 : tie.Need-returns-2
 returns-2 c = search part-full
 
 pub connected-spec : {M : Type 1} → statement M
-connected-spec = tie.close (tie.spec returns lowest-requires reach-requires returns-2)
+connected-spec = tie.close (tie.spec returns lowest-requires joined-requires returns-2)

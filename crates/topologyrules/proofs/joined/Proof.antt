@@ -2,8 +2,8 @@ use Rattle.topologyrules.proofs.Laws.{Growing, grow-done, grow-less, gr
 use Rattle.words.specs.Word.{either}
 use borrow.Author.Needs.{needs}
 use lib.Count.{ones}
-use Rattle.topologyrules.proofs.reach.Statement.{statement}
-use Rattle.topologyrules.proofs.reach.Tie as tie
+use Rattle.topologyrules.proofs.joined.Statement.{statement}
+use Rattle.topologyrules.proofs.joined.Tie as tie
 
 abbrev Inv-loop : tie.InvT-loop
 Inv-loop nb bb root left₀ waiting₀ left waiting = Growing nb bb root left waiting
@@ -50,14 +50,11 @@ loop-less c = search grow-less
 loop-again : tie.Need-loop-again Inv-loop μ-loop
 loop-again c = search grow-more
 
-minus-requires-2 : tie.Need-minus-requires-2 Inv-loop μ-loop
-minus-requires-2 c κs = search needs
-
 returns-2 : tie.Need-returns-2 Inv-loop μ-loop
 returns-2 c = search grow-done
 
-pub reach-spec : {M : Type 1} → statement M
-reach-spec =
+pub joined-spec : {M : Type 1} → statement M
+joined-spec =
     tie.close
     (tie.spec
     Inv-loop
@@ -75,5 +72,4 @@ reach-spec =
     either-requires
     loop-less
     loop-again
-    minus-requires-2
     returns-2)
