@@ -6,9 +6,11 @@ pub mod record; // record.rt: the records as bytes
 use rules::Network;
 use slices::byte;
 use slices::two;
+use slices::two_within;
 use slices::within;
 ghost use mathlib.Core.Path.{_≡_};
-ghost use Prim.Native.Nat.{_<_};
+ghost use Prim.Native.Nat.{_+_, _<_};
+ghost use lib.ListN.{length};
 ghost use Rattle.rules.specs.Limits.{linkPlace, homePlace, rowPlace};
 ghost use Rattle.rules.specs.File.{headerOf, endA, endB, linkWeight, homeTopology, rowWeight};
 ghost use Rattle.layout.specs.Fields.{LinkAt};
@@ -87,7 +89,24 @@ pub fn link_weight(file: &[u8], l: usize) -> u16
     two(file, link_place(l) + 4)
 }
 
-// All of link l's record. One test does for all its bytes where the file reaches that far.
+// All of link l's record, where the file reaches that far.
+// Rules out: the ends exchanged; the weight of the link after.
+pub fn link_there(file: &[u8], l: usize) -> LinkFields
+    requires { ⌜ l < 16777216 ⌝ }
+    requires { ⌜ linkPlace l + 5 < length (now file) ⌝ }
+    ensures { λ r. ⌜ LinkAt (now (file .entry)) l r ⌝ }
+{
+    let at = link_place(l);
+    LinkFields {
+        x: within(file, at),
+        y: within(file, at + 1),
+        a: within(file, at + 2),
+        b: within(file, at + 3),
+        weight: two_within(file, at + 4),
+    }
+}
+
+// The same in any file. One test does for all its bytes where the file reaches that far.
 // Rules out: the ends exchanged; the weight of the link after.
 pub fn link_fields(file: &[u8], l: usize) -> LinkFields
     requires { ⌜ l < 16777216 ⌝ }
@@ -95,13 +114,7 @@ pub fn link_fields(file: &[u8], l: usize) -> LinkFields
 {
     let at = link_place(l);
     if at + 5 < file.len() {
-        return LinkFields {
-            x: within(file, at),
-            y: within(file, at + 1),
-            a: within(file, at + 2),
-            b: within(file, at + 3),
-            weight: two(file, at + 4),
-        };
+        return link_there(file, l);
     }
     LinkFields {
         x: byte(file, at),

@@ -3,7 +3,7 @@
 pub mod store; // store.rt: bytes, and numbers of two bytes
 
 ghost use mathlib.Core.Path.{_≡_};
-ghost use Prim.Native.Nat.{_<_};
+ghost use Prim.Native.Nat.{_+_, _<_};
 ghost use lib.ListN.{length, getD};
 ghost use Rattle.rules.specs.File.{two};
 
@@ -24,16 +24,25 @@ pub fn within(bytes: &[u8], at: usize) -> u8
     bytes[at]
 }
 
-// The two bytes at a place as one number, the first the higher. One test does for both where the slice reaches that far.
+// The two bytes at a place as one number, the first the higher, where both are before the end.
 // Rules out: the lower byte first; the two bytes one place later.
+pub fn two_within(bytes: &[u8], at: usize) -> u16
+    requires { ⌜ at + 1 < length (now bytes) ⌝ }
+    ensures { λ r. ⌜ r ≡ two (now (bytes .entry)) at ⌝ }
+{
+    let high = within(bytes, at) as u16;
+    let low = within(bytes, at + 1) as u16;
+    256 * high + low
+}
+
+// The same at any place. One test does for both bytes where the slice reaches that far.
+// Rules out: the lower byte first; anything but 0 for a byte past the end.
 pub fn two(bytes: &[u8], at: usize) -> u16
     requires { ⌜ at < 4294967296 ⌝ }
     ensures { λ r. ⌜ r ≡ two (now (bytes .entry)) at ⌝ }
 {
     if at + 1 < bytes.len() {
-        let high = within(bytes, at) as u16;
-        let low = within(bytes, at + 1) as u16;
-        return 256 * high + low;
+        return two_within(bytes, at);
     }
     256 * (byte(bytes, at) as u16)
 }

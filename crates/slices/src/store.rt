@@ -17,7 +17,8 @@ pub fn byte(bytes: &mut [u8], at: usize, x: u8)
 }
 
 // Two bytes at a place where both are before the end.
-fn pair(bytes: &mut [u8], at: usize, x: u8, y: u8)
+// Rules out: the two bytes exchanged; the byte before altered.
+pub fn pair(bytes: &mut [u8], at: usize, x: u8, y: u8)
     requires { ⌜ at + 1 < length (now bytes) ⌝ }
     ensures { λ _. ⌜ now (bytes .exit) ≡ put (now (bytes .entry)) at (x ∷ y ∷ []) ⌝ }
 {

@@ -8,7 +8,7 @@ use native.Mathlib.Omega.{arith}
 use lib.Count.{ones}
 use lib.Dec.{eqb, ltb, leb}
 use lib.ListN.{getD, set}
-use borrow.Author.Tests.{eqb-true, eqb-false, eq-eqb, ne-eqb, ltb-true, lt-ltb, le-leb, lt-leb, not-true}
+use borrow.Author.Tests.{eqb-true, eq-eqb, ne-eqb, ltb-true, lt-ltb, le-leb, lt-leb, not-true}
 use Rattle.rules.specs.Basics.{need, all}
 use Rattle.rules.specs.Sets.{Walk}
 use Rattle.rules.proofs.Ground.Choices.{and-of, and-left, and-right, or-left, or-right, or-cases, clash, false-of}
@@ -27,7 +27,7 @@ fewer-ones a b v fa fb l h out there = rw (ones-count 32 a fa, ones-count 32 b f
 
 -- ---- joined
 
--- the nodes of the backbone that are not left are joined to the root, and those that do not wait have been looked from
+-- the nodes of the backbone that are not left are joined to the root, those of them that do not wait have been looked from, and where none waits one is left
 pub record Growing (nb : List ℕ) (bb root left waiting : ℕ) : Type 0 where
   pub fits : left < 2 ^ 32
   pub fits-waiting : waiting < 2 ^ 32
@@ -36,6 +36,7 @@ pub record Growing (nb : List ℕ) (bb root left waiting : ℕ) : Type 0 where
   pub waits : (x : ℕ) → has waiting x ≡ true → (has bb x ≡ true) × (has left x ≡ false)
   pub sound : (x : ℕ) → has bb x ≡ true → has left x ≡ false → Walk (normal nb bb) root x
   pub spread : (y x : ℕ) → has bb y ≡ true → has left y ≡ false → has waiting y ≡ false → normal nb bb y x ≡ true → has left x ≡ false
+  pub one : left ≡ 0 → waiting ≡ 0 → ⊥
 
 pub root-low : (nb : List ℕ) (bb root : ℕ) → bb < 2 ^ 32 → has bb root ≡ true → root < 32
 root-low nb bb root R e = has-bound 32 bb root R e
@@ -50,6 +51,7 @@ grow-start nb bb root left waiting R i el ew =
       waits = λ x q. let e = eqb-true x root (sym (at-waiting x) ∙ q) in (rw e i, rw e start);
       sound = λ x b o. rw (is-root x b o) Walk.stay;
       spread = λ y x b o w n. absurd (clash (has waiting y) (at-waiting y ∙ eq-eqb y root (is-root y b o)) w);
+      one = λ e z. clash (has waiting root) (at-waiting root ∙ eq-eqb root root refl) (rw z (has-none root));
     }
   where
     low : root < 32
@@ -129,8 +131,8 @@ module _ (nb : List ℕ) (bb root left waiting v : ℕ) (G : Growing nb bb root 
             pick (inl p) = or-right (has left x) (has waiting x) (and-left (has waiting x) (not (eqb x v)) p)
             pick (inr p) = or-left (has left x) (has waiting x) (and-right (has y x) (has left x) p)
 
-    pub grow-more : bb < 2 ^ 32 → has bb root ≡ true → Growing nb bb root left′ waiting′
-    grow-more R i =
+    pub grow-more : bb < 2 ^ 32 → has bb root ≡ true → (left ≡ 0 → ⊥) → Growing nb bb root left′ waiting′
+    grow-more R i some =
         record {
           fits = left-fits;
           fits-waiting = waiting-fits;
@@ -139,6 +141,7 @@ module _ (nb : List ℕ) (bb root left waiting v : ℕ) (G : Growing nb bb root 
           waits = λ x q. stands x (low-in x q) (came x q);
           sound = λ x b o. walk x b o (has left x) refl;
           spread = λ u x b o w n. onto u x b o w n (has left u) refl (eqb u v) refl;
+          one = λ e z. let f = lowest-there left (lowestIn left) (G .fits) some refl in clash (has waiting′ (lowestIn left)) (goes (lowestIn left) (f .0) (f .1) (rw e (has-none (lowestIn left)))) (rw z (has-none (lowestIn left)));
         }
       where
         low : (x : ℕ) → has bb x ≡ true → x < 32
@@ -156,6 +159,10 @@ module _ (nb : List ℕ) (bb root left waiting v : ℕ) (G : Growing nb bb root 
             go true e = e
             go false e = absurd (clash (has left′ x) (at x l ∙ rw (q, e)) o)
 
+        -- and waits
+        goes : (x : ℕ) → x < 32 → has left x ≡ true → has left′ x ≡ false → has waiting′ x ≡ true
+        goes x l q o = at-waiting x l ∙ or-right (has waiting x && not (eqb x v)) (has y x && has left x) (and-of (has y x) (has left x) (lost x l q o) q)
+
         walk : (x : ℕ) → has bb x ≡ true → has left′ x ≡ false → (t : Bool) → has left x ≡ t → Walk (normal nb bb) root x
         walk x b o false q = G .sound x b q
         walk x b o true q =
@@ -167,8 +174,7 @@ module _ (nb : List ℕ) (bb root left waiting v : ℕ) (G : Growing nb bb root 
         far u x n = and-right (has bb u) (has bb x && has (getD nb u 0) x) n
 
         onto : (u x : ℕ) → has bb u ≡ true → has left′ u ≡ false → has waiting′ u ≡ false → normal nb bb u x ≡ true → (s : Bool) → has left u ≡ s → (t : Bool) → eqb u v ≡ t → has left′ x ≡ false
-        onto u x b o w n true q t e =
-            absurd (clash (has waiting′ u) (at-waiting u (low u b) ∙ or-right (has waiting u && not (eqb u v)) (has y u && has left u) (and-of (has y u) (has left u) (lost u (low u b) q o) q)) w)
+        onto u x b o w n true q t e = absurd (clash (has waiting′ u) (goes u (low u b) q o) w)
         onto u x b o w n false q true e =
             let f : has bb x && has (getD nb v 0) x ≡ true = rw (← eqb-true u v e) (far u x n) in
             let z : has y x ≡ true = rw ey (and-right (has bb x) (has (getD nb v 0) x) f) in
@@ -194,8 +200,8 @@ module _ (nb : List ℕ) (bb root left waiting : ℕ) (G : Growing nb bb root le
       (record { fits = R; begun = i; sound = λ x e. G .sound x e (rw z (has-none x)); closed = λ y x p n. and-left (has bb x) (has (getD nb y 0) x) (and-right (has bb y) (has bb x && has (getD nb y 0) x) n) })))
 
   -- the word grows no longer
-  pub grow-done : waiting ≡ 0 → eqb left 0 ≡ eqb (reachedWord nb bb root) bb
-  grow-done z = go (eqb left 0) refl
+  pub grow-done : waiting ≡ 0 → false ≡ eqb (reachedWord nb bb root) bb
+  grow-done z = sym (ne-eqb (reachedWord nb bb root) bb short)
     where
       at : (x : ℕ) → x < 32 → has (minus bb left) x ≡ (has bb x && not (has left x))
       at x l = has-minus bb left x (G .fits) l
@@ -219,14 +225,10 @@ module _ (nb : List ℕ) (bb root left waiting : ℕ) (G : Growing nb bb root le
           (record { fits = minus-fits bb left R; begun = there root i (G .begun); sound = λ x q. let p = of x q in G .sound x (p .0) (p .1); closed = λ y x q n. onward y x (of y q) n })
 
       -- a node that is left is in the backbone and not reached
-      short : (left ≡ 0 → ⊥) → reachedWord nb bb root ≡ bb → ⊥
-      short ne e =
-          let f = lowest-there left (lowestIn left) (G .fits) ne refl in
+      short : reachedWord nb bb root ≡ bb → ⊥
+      short e =
+          let f = lowest-there left (lowestIn left) (G .fits) (λ o. G .one o z) refl in
           clash (has left (lowestIn left)) (f .1) (of (lowestIn left) (ap (λ (w : ℕ). has w (lowestIn left)) (sym reached-part ∙ e) ∙ G .inside (lowestIn left) (f .1)) .1)
-
-      go : (t : Bool) → eqb left 0 ≡ t → eqb left 0 ≡ eqb (reachedWord nb bb root) bb
-      go true e = e ∙ grow-whole (eqb-true left 0 e)
-      go false e = e ∙ sym (ne-eqb (reachedWord nb bb root) bb (short (eqb-false left 0 e)))
 
 -- ---- connected
 pub part-empty : (nb : List ℕ) (bb : ℕ) → bb ≡ 0 → false ≡ connectedBy nb bb

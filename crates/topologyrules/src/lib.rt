@@ -50,7 +50,7 @@ fn joined(nb: &[u32], bb: u32, root: u8) -> bool
         left = minus(left, found);
         waiting = either(removing(waiting, v), found);
     }
-    left == 0
+    false
 }
 
 // The backbone is non-empty and connected by normal links.

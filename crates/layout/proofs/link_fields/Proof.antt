@@ -1,4 +1,4 @@
-use Rattle.layout.proofs.Records.{fields-each, fields-there}
+use Rattle.layout.proofs.Records.{fields-each}
 use borrow.Author.Needs.{needs}
 use Rattle.layout.proofs.link_fields.Statement.{statement}
 use Rattle.layout.proofs.link_fields.Tie as tie
@@ -9,35 +9,11 @@ link-place-requires c κs = search needs
 add-if1 : tie.Need-add-if1
 add-if1 c = search needs
 
-within-requires : tie.Need-within-requires
-within-requires c κs = search needs
-
-add-within : tie.Need-add-within
-add-within c = search needs
-
-within-requires-2 : tie.Need-within-requires-2
-within-requires-2 c κs = search needs
-
-add-within-2 : tie.Need-add-within-2
-add-within-2 c = search needs
-
-within-requires-3 : tie.Need-within-requires-3
-within-requires-3 c κs = search needs
-
-add-within-3 : tie.Need-add-within-3
-add-within-3 c = search needs
-
-within-requires-4 : tie.Need-within-requires-4
-within-requires-4 c κs = search needs
-
-add-two : tie.Need-add-two
-add-two c = search needs
-
-two-requires : tie.Need-two-requires
-two-requires c κs = search needs
+link-there-requires : tie.Need-link-there-requires
+link-there-requires c κs = search needs
 
 returns : tie.Need-returns
-returns c = search fields-there
+returns c = search needs
 
 byte-requires : tie.Need-byte-requires
 byte-requires c κs = search needs
@@ -66,15 +42,7 @@ link-fields-spec =
     (tie.spec
     link-place-requires
     add-if1
-    within-requires
-    add-within
-    within-requires-2
-    add-within-2
-    within-requires-3
-    add-within-3
-    within-requires-4
-    add-two
-    two-requires
+    link-there-requires
     returns
     byte-requires
     add-byte

@@ -1,0 +1,53 @@
+use Rattle.layout.proofs.Records.{fields-there}
+use borrow.Author.Needs.{needs}
+use Rattle.layout.proofs.link_there.Statement.{statement}
+use Rattle.layout.proofs.link_there.Tie as tie
+
+link-place-requires : tie.Need-link-place-requires
+link-place-requires c κs = search needs
+
+within-requires : tie.Need-within-requires
+within-requires c κs = search needs
+
+add-within : tie.Need-add-within
+add-within c = search needs
+
+within-requires-2 : tie.Need-within-requires-2
+within-requires-2 c κs = search needs
+
+add-within-2 : tie.Need-add-within-2
+add-within-2 c = search needs
+
+within-requires-3 : tie.Need-within-requires-3
+within-requires-3 c κs = search needs
+
+add-within-3 : tie.Need-add-within-3
+add-within-3 c = search needs
+
+within-requires-4 : tie.Need-within-requires-4
+within-requires-4 c κs = search needs
+
+add-two-within : tie.Need-add-two-within
+add-two-within c = search needs
+
+two-within-requires : tie.Need-two-within-requires
+two-within-requires c κs = search needs
+
+returns : tie.Need-returns
+returns c = search fields-there
+
+pub link-there-spec : {M : Type 1} → statement M
+link-there-spec =
+    tie.close
+    (tie.spec
+    link-place-requires
+    within-requires
+    add-within
+    within-requires-2
+    add-within-2
+    within-requires-3
+    add-within-3
+    within-requires-4
+    add-two-within
+    two-within-requires
+    returns)
