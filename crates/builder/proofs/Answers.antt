@@ -13,7 +13,7 @@ use Rattle.rules.specs.declared.Verdict.the-variants.{Accepted, Refused}
 use Rattle.rules.specs.declared.LengthAnswer.{LengthAnswer}
 use Rattle.rules.specs.declared.LengthAnswer.the-variants as long
 use Rattle.rules.specs.Basics.{need, all, laid}
-use Rattle.rules.specs.Limits.{fileLength}
+use Rattle.rules.specs.Limits.{linkPlace, homePlace, rowPlace, fileLength}
 use Rattle.rules.specs.File.{Set, encode, headerOf, setOf}
 use Rattle.rules.specs.Building.{firstFit, fits, highest, filled, built, spared, buildNumber}
 use Rattle.rules.specs.Judgement.{refuse, andThen, judge, needGraph, needCap, needFit, needRoom}
@@ -32,7 +32,7 @@ use Rattle.checker.proofs.Graph.{words-of, accepted-few}
 use Rattle.firstfit.specs.Fit.{allSpared, Placed}
 use Rattle.firstfit.proofs.Fitted.{all-spared-same, passed-cap, all-placed, placed-homes}
 use Rattle.slices.specs.Stores.{put}
-use Rattle.filling.specs.Filled.{EndsBelow, filledFile}
+use Rattle.filling.specs.Filled.{LinksIn, filledFile}
 use Rattle.builder.specs.Answer.{Gives}
 use Rattle.filling.proofs.Written.{written-is}
 
@@ -67,9 +67,20 @@ module _ (s homes d : List ℕ) (net set : Network) (k bytes : ℕ) (en : net �
   unfolding needRoom
   room-is v ev = ev ∙ rw long-is
 
-  -- both ends of a link have homes
-  pub ends-homed : judge s ≡ Accepted → EndsBelow s (set .m) (length homes)
-  ends-homed a = rw (es, el, en) (record { a-below = λ l h. let e = file-meets s a .links l h .ends in omega arith; b-below = λ l h. file-meets s a .links l h .ends .1 })
+  -- the links stand in the graph's file, and their ends have homes
+  pub links-in : judge s ≡ Accepted → LinksIn s (set .m) (length homes)
+  unfolding fileLength rowPlace homePlace linkPlace
+  links-in a =
+      rw (es, el, en)
+      (record {
+        long = (let e = file-meets s a .header .long in omega arith);
+        a-below = λ l h. let e = file-meets s a .links l h .ends in omega arith;
+        b-below = λ l h. file-meets s a .links l h .ends .1;
+      })
+
+  -- and the lent file has room
+  pub room-there : (v : Verdict) → v ≡ refuse (need (leb bytes (length d)) 14 0) 0 → v ≡ Accepted → fileLength set ≤ length d
+  room-there v ev t = rw (← eb) (leb-true bytes (length d) (need-ok (leb bytes (length d)) 13 0 (refuse-zero _ 0 (sym ev ∙ t)) .0))
 
   pub no-room : (v : Verdict) (number place : ℕ) → v ≡ refuse (need (leb bytes (length d)) 14 0) 0 → v ≡ Refused number place
       → Gives (needRoom (fileLength (filled (setOf s) homes .net)) d) (filled (setOf s) homes) d (long.Refused number place) d
@@ -78,8 +89,7 @@ module _ (s homes d : List ℕ) (net set : Network) (k bytes : ℕ) (en : net �
   pub room : (v : Verdict) (f : List ℕ) → v ≡ refuse (need (leb bytes (length d)) 14 0) 0 → v ≡ Accepted → f ≡ put d 0 (filledFile s homes set)
       → Gives (needRoom (fileLength (filled (setOf s) homes .net)) d) (filled (setOf s) homes) d (long.Length bytes) f
   room v f ev t ef =
-      let there : bytes ≤ length d = leb-true bytes (length d) (need-ok (leb bytes (length d)) 13 0 (refuse-zero _ 0 (sym ev ∙ t)) .0) in
-      gives-length _ (filled (setOf s) homes) d f bytes (sym (room-is v ev) ∙ t) long-is (ef ∙ written-is s homes d set set-is (rw (← eb) there))
+      gives-length _ (filled (setOf s) homes) d f bytes (sym (room-is v ev) ∙ t) long-is (ef ∙ written-is s homes d set set-is (room-there v ev t))
 
 words-are : (s nb : List ℕ) (net : Network) → judge s ≡ Accepted → net ≡ headerOf s → nb ≡ neighbourWords s (net .m) → WordsOf (setOf s) nb
 words-are s nb net a en eb = rw (eb, en) (words-of s (accepted-few s a))

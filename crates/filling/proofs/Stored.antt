@@ -2,8 +2,8 @@
 use mathlib.Core.Path.{_≡_, refl, ap, _∙_}
 use mathlib.Core.Bool.{Bool, true, false}
 use mathlib.Core.List.{List, [], _∷_, _++_}
-use Prim.Native.Nat.{ℕ, suc, _+_, _*_, _<_}
-use native.Mathlib.Nat.{zero-mul}
+use Prim.Native.Nat.{ℕ, suc, _+_, _*_, _/_, _%_, _≤_, _<_}
+use native.Mathlib.Nat.{zero-mul, suc-mul, mul-le-mul}
 use native.Mathlib.Numerals.{add-one}
 use native.Mathlib.Omega.{arith}
 use lib.Dec.{eqb}
@@ -17,11 +17,16 @@ use Rattle.rules.specs.Isolation.{classBy}
 use Rattle.rules.specs.Building.{onNormal}
 use Rattle.rules.proofs.Ground.Rows.{length-flat}
 use Rattle.slices.specs.Stores.{put}
-use Rattle.slices.proofs.Stores.{put-then, Storing, storing-more}
+use Rattle.slices.proofs.Stores.{length-put, put-then, Storing, storing-more}
 use Rattle.layout.specs.Records.{linkRecord, homeRecord, homeOf, rowHead}
-use Rattle.filling.specs.Filled.{EndsBelow, linkCopy, weightIn, filledBytes, filledRow, filledFile}
+use Rattle.filling.specs.Filled.{LinksIn, linkCopy, weightIn, filledBytes, filledRow, filledFile}
 
 -- ---- links
+
+-- a link before the last of those that stand in the file does
+pub link-inside : (s : List ℕ) (l x m : ℕ) → linkPlace m ≤ length s → x < m → l ≡ x → linkPlace l + 5 < length s
+unfolding linkPlace
+link-inside s l x m h g e = omega arith
 
 pub link-copied : (s d e e′ : List ℕ) (l m at a b w : ℕ) → Storing d e (linkPlace 0) (linkCopy s) l m → l < m → at ≡ linkPlace l → a ≡ endA s l → b ≡ endB s l → w ≡ linkWeight s l
     → e′ ≡ put e at (linkRecord a b w) → Storing d e′ (linkPlace 0) (linkCopy s) (l + 1) m
@@ -36,10 +41,16 @@ a-homed s homes l a e h = rw e h
 pub b-homed : (s homes : List ℕ) (l b : ℕ) → b ≡ endB s l → endB s l < length homes → b < length homes
 b-homed s homes l b e h = rw e h
 
-pub a-below : (s homes : List ℕ) (x m l : ℕ) → EndsBelow s m (length homes) → x < m → l ≡ x → endA s l < length homes
+pub links-long : (s : List ℕ) (m n : ℕ) → LinksIn s m n → linkPlace m ≤ length s
+links-long s m n E = E .long
+
+pub place-inside : (s homes : List ℕ) (x m l : ℕ) → LinksIn s m (length homes) → x < m → l ≡ x → linkPlace l + 5 < length s
+place-inside s homes x m l E h e = link-inside s l x m (E .long) h e
+
+pub a-below : (s homes : List ℕ) (x m l : ℕ) → LinksIn s m (length homes) → x < m → l ≡ x → endA s l < length homes
 a-below s homes x m l E h e = rw e (E .a-below x h)
 
-pub b-below : (s homes : List ℕ) (x m l : ℕ) → EndsBelow s m (length homes) → x < m → l ≡ x → endB s l < length homes
+pub b-below : (s homes : List ℕ) (x m l : ℕ) → LinksIn s m (length homes) → x < m → l ≡ x → endB s l < length homes
 b-below s homes x m l E h e = rw e (E .b-below x h)
 
 pub weight-a : (s homes : List ℕ) (i l a x : ℕ) → a ≡ endA s l → x ≡ getD homes a 0 → x ≡ i → 0 ≡ weightIn s homes i l
@@ -63,11 +74,17 @@ pub weight-normal : (s homes : List ℕ) (i l a b x y w : ℕ) → a ≡ endA s 
 unfolding weightIn classBy onNormal
 weight-normal s homes i l a b x y w ea ex ne eb ey nf ew = ew ∙ rw (← ea, ← ex, ne-eqb x i ne, ← eb, ← ey, ne-eqb y i nf)
 
+pub weight-inside : (s homes d e : List ℕ) (base i x m l : ℕ) → Storing d e base (filledBytes s homes i) x m → base + 2 * m ≤ length d → x < m → l ≡ x → base + 2 * l + 1 < length e
+weight-inside s homes d e base i x m l S h g q = let k = S .long in omega arith
+
 pub weight-filled : (s homes d e e′ : List ℕ) (base i x m l w : ℕ) → Storing d e base (filledBytes s homes i) x m → x < m → l ≡ x → w ≡ weightIn s homes i l
-    → e′ ≡ put e (base + 2 * l) (bytes2 w) → Storing d e′ base (filledBytes s homes i) (x + 1) m
+    → e′ ≡ put e (base + 2 * l) (w / 256 ∷ w % 256 ∷ []) → Storing d e′ base (filledBytes s homes i) (x + 1) m
 unfolding filledBytes bytes2
 weight-filled s homes d e e′ base i x m l w S g el ew q =
     storing-more d e e′ base (filledBytes s homes i) x m (base + 2 * l) 2 _ S g (λ y _. refl) (omega arith) (ap bytes2 (ew ∙ ap (weightIn s homes i) el)) q
+
+pub head-room : (d e : List ℕ) (at i m : ℕ) → e ≡ put d at (rowHead i) → at + (3 + 2 * m) ≤ length d → at + 3 + 2 * m ≤ length e
+head-room d e at i m p h = let k = ap length p ∙ length-put d at (rowHead i) in omega arith
 
 pub row-filled : (s homes d e e′ : List ℕ) (m at i j : ℕ) → i ≡ j + 1 → e ≡ put d at (rowHead i) → e′ ≡ put e (at + 3) (flat (filledBytes s homes i) m) → e′ ≡ put d at (filledRow s homes m j)
 unfolding filledRow rowHead
@@ -84,6 +101,15 @@ pub rows-filled : (s homes d e e′ : List ℕ) (h : Network) (j k at : ℕ) →
 unfolding rowPlace
 rows-filled s homes d e e′ h j k at S g ep q =
     storing-more d e e′ _ (filledRow s homes (h .m)) j k at (rowLength h) _ S g (λ i _. filled-long s homes h i) (ep ∙ rw zero-mul (omega arith)) refl q
+
+row-before : (h : Network) (j k : ℕ) → j < k → rowPlace h j + rowLength h ≤ rowPlace h k
+unfolding rowPlace
+row-before h j k l = let p : suc j * rowLength h ≤ k * rowLength h = mul-le-mul {n₁ = suc j} {n₂ = k} l (omega arith) in let q = suc-mul j (rowLength h) in omega arith
+
+pub row-room : (s homes d e : List ℕ) (h : Network) (j k at : ℕ) → Storing d e (rowPlace h 0) (filledRow s homes (h .m)) j k → rowPlace h k ≤ length d → j < k → at ≡ rowPlace h j
+    → at + (3 + 2 * h .m) ≤ length e
+unfolding rowLength rowWeights
+row-room s homes d e h j k at S room l p = let q = row-before h j k l in let g = S .long in omega arith
 
 -- ---- the whole file
 

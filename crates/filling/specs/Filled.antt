@@ -1,18 +1,19 @@
 -- The bytes of a set that is filled: links as in the graph's file, homes as they are given, rows by class.
 use mathlib.Core.List.{List, _++_}
-use Prim.Native.Nat.{ℕ, suc, _<_}
+use Prim.Native.Nat.{ℕ, suc, _≤_, _<_}
 use lib.Dec.{eqb}
-use lib.ListN.{getD}
+use lib.ListN.{length, getD}
 use Rattle.rules.specs.declared.Network.{Network}
 use Rattle.rules.specs.Basics.{flat}
-use Rattle.rules.specs.Limits.{homeRecords}
+use Rattle.rules.specs.Limits.{homeRecords, linkPlace}
 use Rattle.rules.specs.File.{bytes2, headerBytes, endA, endB, linkWeight}
 use Rattle.rules.specs.Isolation.{classBy}
 use Rattle.rules.specs.Building.{onNormal}
 use Rattle.layout.specs.Records.{linkRecord, homeOf, rowHead}
 
--- both ends of each of the first m links are below n
-pub record EndsBelow (s : List ℕ) (m n : ℕ) : Type 0 where
+-- the first m links stand in the file, and both ends of each are below n
+pub record LinksIn (s : List ℕ) (m n : ℕ) : Type 0 where
+  pub long : linkPlace m ≤ length s
   pub a-below : (l : ℕ) → l < m → endA s l < n
   pub b-below : (l : ℕ) → l < m → endB s l < n
 

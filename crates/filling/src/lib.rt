@@ -1,30 +1,32 @@
 // The file of a set, from a graph's file and the homes of its nodes: the graph's links, the homes, and rows that repeat topology 0's
-// weights on the links that the homes leave normal. `put_set` promises the lent file with exactly those bytes at its front. A byte past
-// the file's end is stored nowhere, so no function here asks for room; that there is room is for a verdict to say.
-use layout::link_fields;
+// weights on the links that the homes leave normal. `put_set` promises the lent file with exactly those bytes at its front. It asks for
+// what the verdicts before it have settled: the links stand in the graph's file, their ends have homes, and the lent file has room. So
+// no byte of a row is tested again.
 use layout::link_place;
+use layout::link_there;
 use layout::record;
 use layout::row_place;
 use rules::Network;
-use slices::store::number;
+use slices::store::pair;
 use slices::within;
 ghost use mathlib.Core.Path.{_≡_};
-ghost use Prim.Native.Nat.{_+_, _<_};
+ghost use Prim.Native.Nat.{_+_, _*_, _≤_, _<_};
 ghost use Rattle.rules.specs.Basics.{flat};
 ghost use lib.ListN.{length};
-ghost use Rattle.rules.specs.Limits.{linkPlace, rowPlace};
+ghost use Rattle.rules.specs.Limits.{linkPlace, rowPlace, fileLength};
 ghost use Rattle.rules.specs.File.{endA, endB};
 ghost use Rattle.slices.specs.Stores.{put};
-ghost use Rattle.filling.specs.Filled.{EndsBelow, linkCopy, weightIn, filledBytes, filledRow, filledFile};
+ghost use Rattle.filling.specs.Filled.{LinksIn, linkCopy, weightIn, filledBytes, filledRow, filledFile};
 
 // The links, as in the graph.
 fn put_links(graph: &[u8], file: &mut [u8], m: u16)
+    requires { ⌜ linkPlace m ≤ length (now graph) ⌝ }
     ensures { λ _. ⌜ now (file .exit) ≡ put (now (file .entry)) (linkPlace 0) (flat (linkCopy (now (graph .entry))) m) ⌝ }
 {
     let mut x: u16 = 0;
     while x < m {
         let l = x as usize;
-        let link = link_fields(graph, l);
+        let link = link_there(graph, l);
         record::link(file, link_place(l), link.a, link.b, link.weight);
         x += 1;
     }
@@ -33,10 +35,11 @@ fn put_links(graph: &[u8], file: &mut [u8], m: u16)
 // Link l's weight in topology i: topology 0's where neither end is isolated.
 fn weight_in(graph: &[u8], homes: &[u8], i: u8, l: usize) -> u16
     requires { ⌜ l < 65536 ⌝ }
+    requires { ⌜ linkPlace l + 5 < length (now graph) ⌝ }
     requires { ⌜ (endA (now graph) l < length (now homes)) × (endB (now graph) l < length (now homes)) ⌝ }
     ensures { λ r. ⌜ r ≡ weightIn (now (graph .entry)) (now (homes .entry)) i l ⌝ }
 {
-    let link = link_fields(graph, l);
+    let link = link_there(graph, l);
     let home_a = within(homes, link.a as usize);
     let home_b = within(homes, link.b as usize);
     if home_a == i {
@@ -51,14 +54,15 @@ fn weight_in(graph: &[u8], homes: &[u8], i: u8, l: usize) -> u16
 // The m weights of topology i's row.
 fn put_weights(graph: &[u8], homes: &[u8], file: &mut [u8], m: u16, at: usize, i: u8)
     requires { ⌜ at < 1073741824 ⌝ }
-    requires { ⌜ EndsBelow (now graph) m (length (now homes)) ⌝ }
+    requires { ⌜ LinksIn (now graph) m (length (now homes)) ⌝ }
+    requires { ⌜ at + 2 * m ≤ length (now file) ⌝ }
     ensures { λ _. ⌜ now (file .exit) ≡ put (now (file .entry)) at (flat (filledBytes (now (graph .entry)) (now (homes .entry)) i) m) ⌝ }
 {
     let mut x: u16 = 0;
     while x < m {
         let l = x as usize;
         let w = weight_in(graph, homes, i, l);
-        number(file, at + Network::WEIGHT * l, w);
+        pair(file, at + Network::WEIGHT * l, (w / 256) as u8, (w % 256) as u8);
         x += 1;
     }
 }
@@ -67,7 +71,8 @@ fn put_weights(graph: &[u8], homes: &[u8], file: &mut [u8], m: u16, at: usize, i
 fn put_row(graph: &[u8], homes: &[u8], file: &mut [u8], m: u16, at: usize, j: u8)
     requires { ⌜ at < 536870912 ⌝ }
     requires { ⌜ j < 255 ⌝ }
-    requires { ⌜ EndsBelow (now graph) m (length (now homes)) ⌝ }
+    requires { ⌜ LinksIn (now graph) m (length (now homes)) ⌝ }
+    requires { ⌜ at + (3 + 2 * m) ≤ length (now file) ⌝ }
     ensures { λ _. ⌜ now (file .exit) ≡ put (now (file .entry)) at (filledRow (now (graph .entry)) (now (homes .entry)) m j) ⌝ }
 {
     let i = j + 1;
@@ -76,7 +81,8 @@ fn put_row(graph: &[u8], homes: &[u8], file: &mut [u8], m: u16, at: usize, j: u8
 }
 
 fn put_rows(graph: &[u8], homes: &[u8], file: &mut [u8], net: Network, k: u8)
-    requires { ⌜ EndsBelow (now graph) (net .m) (length (now homes)) ⌝ }
+    requires { ⌜ LinksIn (now graph) (net .m) (length (now homes)) ⌝ }
+    requires { ⌜ rowPlace net k ≤ length (now file) ⌝ }
     ensures { λ _. ⌜ now (file .exit) ≡ put (now (file .entry)) (rowPlace net 0) (flat (filledRow (now (graph .entry)) (now (homes .entry)) (net .m)) k) ⌝ }
 {
     let mut j: u8 = 0;
@@ -91,7 +97,8 @@ fn put_rows(graph: &[u8], homes: &[u8], file: &mut [u8], net: Network, k: u8)
 // Rules out: a weight in a row for a link with an isolated end `weight_on_a_restricted_link`; the graph's own header, with k =
 // 0.
 pub fn put_set(graph: &[u8], homes: &[u8], file: &mut [u8], net: Network)
-    requires { ⌜ EndsBelow (now graph) (net .m) (length (now homes)) ⌝ }
+    requires { ⌜ LinksIn (now graph) (net .m) (length (now homes)) ⌝ }
+    requires { ⌜ fileLength net ≤ length (now file) ⌝ }
     ensures { λ _. ⌜ now (file .exit) ≡ put (now (file .entry)) 0 (filledFile (now (graph .entry)) (now (homes .entry)) net) ⌝ }
 {
     record::header(file, net);

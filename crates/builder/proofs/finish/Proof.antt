@@ -1,4 +1,4 @@
-use Rattle.builder.proofs.Answers.{ends-homed, no-room, room}
+use Rattle.builder.proofs.Answers.{links-in, no-room, room, room-there}
 use borrow.Author.Needs.{needs}
 use Rattle.builder.proofs.finish.Statement.{statement}
 use Rattle.builder.proofs.finish.Tie as tie
@@ -19,7 +19,7 @@ enum-told : tie.Need-enum-told
 enum-told c = search needs
 
 put-set-requires : tie.Need-put-set-requires
-put-set-requires c κs = search ends-homed
+put-set-requires c κs = (search links-in, search room-there)
 
 enum-known-room : tie.Need-enum-known-room
 enum-known-room c = search needs

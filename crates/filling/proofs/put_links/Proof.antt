@@ -1,9 +1,9 @@
-use Prim.Native.Nat.{_-_}
-use Rattle.filling.proofs.Stored.{link-copied}
-use Rattle.filling.specs.Filled.{linkCopy}
-use Rattle.rules.specs.Limits.{linkPlace}
-use Rattle.slices.proofs.Stores.{Storing, storing-done, storing-none}
 use borrow.Author.Needs.{needs}
+use Rattle.slices.proofs.Stores.{Storing, storing-done, storing-none}
+use Rattle.rules.specs.Limits.{linkPlace}
+use Rattle.filling.specs.Filled.{linkCopy}
+use Rattle.filling.proofs.Stored.{link-copied, link-inside}
+use Prim.Native.Nat.{_-_}
 use Rattle.filling.proofs.put_links.Statement.{statement}
 use Rattle.filling.proofs.put_links.Tie as tie
 
@@ -19,8 +19,8 @@ loop-holds c = search storing-none
 cast-l : tie.Need-cast-l Inv-loop μ-loop
 cast-l c = search needs
 
-link-fields-requires : tie.Need-link-fields-requires Inv-loop μ-loop
-link-fields-requires c κs = search needs
+link-there-requires : tie.Need-link-there-requires Inv-loop μ-loop
+link-there-requires c κs = (search needs, search link-inside)
 
 link-place-requires : tie.Need-link-place-requires Inv-loop μ-loop
 link-place-requires c κs = search needs
@@ -51,7 +51,7 @@ put-links-spec =
     μ-loop
     loop-holds
     cast-l
-    link-fields-requires
+    link-there-requires
     link-place-requires
     link-requires
     add-x

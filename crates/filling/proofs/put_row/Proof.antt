@@ -1,4 +1,4 @@
-use Rattle.filling.proofs.Stored.{row-filled}
+use Rattle.filling.proofs.Stored.{head-room, row-filled}
 use borrow.Author.Needs.{needs}
 use Rattle.filling.proofs.put_row.Statement.{statement}
 use Rattle.filling.proofs.put_row.Tie as tie
@@ -13,7 +13,7 @@ add-put-weights : tie.Need-add-put-weights
 add-put-weights c = search needs
 
 put-weights-requires : tie.Need-put-weights-requires
-put-weights-requires c κs = search needs
+put-weights-requires c κs = (search needs, (search needs, search head-room))
 
 same-length : tie.Need-same-length
 same-length c = search needs

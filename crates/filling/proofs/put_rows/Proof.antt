@@ -1,5 +1,5 @@
 use Prim.Native.Nat.{_-_}
-use Rattle.filling.proofs.Stored.{rows-filled}
+use Rattle.filling.proofs.Stored.{row-room, rows-filled}
 use Rattle.filling.specs.Filled.{filledRow}
 use Rattle.rules.specs.Limits.{rowPlace}
 use Rattle.slices.proofs.Stores.{Storing, storing-done, storing-none}
@@ -23,7 +23,7 @@ row-place-requires : tie.Need-row-place-requires Inv-loop μ-loop
 row-place-requires c κs = search needs
 
 put-row-requires : tie.Need-put-row-requires Inv-loop μ-loop
-put-row-requires c κs = (search needs, (search needs, search needs))
+put-row-requires c κs = (search needs, (search needs, (search needs, search row-room)))
 
 add-j : tie.Need-add-j Inv-loop μ-loop
 add-j c = search needs

@@ -1,4 +1,5 @@
-use Rattle.filling.proofs.Stored.{file-filled}
+use Rattle.filling.proofs.Stored.{file-filled, links-long}
+use Rattle.rules.specs.Limits.{fileLength}
 use borrow.Author.Needs.{needs}
 use Rattle.filling.proofs.put_set.Statement.{statement}
 use Rattle.filling.proofs.put_set.Tie as tie
@@ -7,7 +8,7 @@ header-requires : tie.Need-header-requires
 header-requires c κs = search needs
 
 put-links-requires : tie.Need-put-links-requires
-put-links-requires c κs = search needs
+put-links-requires c κs = search links-long
 
 home-records-requires : tie.Need-home-records-requires
 home-records-requires c κs = search needs
@@ -16,7 +17,8 @@ homes-requires : tie.Need-homes-requires
 homes-requires c κs = search needs
 
 put-rows-requires : tie.Need-put-rows-requires
-put-rows-requires c κs = search needs
+unfolding fileLength
+put-rows-requires c κs = (search needs, search needs)
 
 same-length : tie.Need-same-length
 same-length c = search needs

@@ -3,20 +3,20 @@ use borrow.Author.Needs.{needs}
 use Rattle.filling.proofs.weight_in.Statement.{statement}
 use Rattle.filling.proofs.weight_in.Tie as tie
 
-link-fields-requires : tie.Need-link-fields-requires
-link-fields-requires c κs = search needs
+link-there-requires : tie.Need-link-there-requires
+link-there-requires c κs = search needs
 
 cast-within : tie.Need-cast-within
 cast-within c = search needs
 
 within-requires : tie.Need-within-requires
-within-requires c κs = search a-homed
+within-requires c κs = search needs
 
 cast-within-2 : tie.Need-cast-within-2
 cast-within-2 c = search needs
 
 within-requires-2 : tie.Need-within-requires-2
-within-requires-2 c κs = search b-homed
+within-requires-2 c κs = search needs
 
 returns : tie.Need-returns
 returns c = search weight-a
@@ -31,7 +31,7 @@ pub weight-in-spec : {M : Type 1} → statement M
 weight-in-spec =
     tie.close
     (tie.spec
-    link-fields-requires
+    link-there-requires
     cast-within
     within-requires
     cast-within-2
