@@ -11,22 +11,21 @@ use lib.ListN.{length, getD}
 use borrow.Author.Tests.{eq-eqb, ne-eqb}
 use Rattle.rules.specs.declared.Network.{Network}
 use Rattle.rules.specs.Basics.{flat}
-use Rattle.rules.specs.Limits.{homeRecords, rowLength, rowWeights, linkPlace, homePlace, rowPlace}
+use Rattle.rules.specs.Limits.{homeRecords, rowLength, rowWeights, linkPlace, homePlace, rowPlace, fileLength}
 use Rattle.rules.specs.File.{bytes2, headerBytes, endA, endB, linkWeight}
 use Rattle.rules.specs.Isolation.{classBy}
 use Rattle.rules.specs.Building.{onNormal}
 use Rattle.rules.proofs.Ground.Rows.{length-flat}
 use Rattle.slices.specs.Stores.{put}
 use Rattle.slices.proofs.Stores.{length-put, put-then, Storing, storing-more}
+use Rattle.layout.proofs.Records.{link-inside}
 use Rattle.layout.specs.Records.{linkRecord, homeRecord, homeOf, rowHead}
 use Rattle.filling.specs.Filled.{LinksIn, linkCopy, weightIn, filledBytes, filledRow, filledFile}
 
 -- ---- links
 
--- a link before the last of those that stand in the file does
-pub link-inside : (s : List ℕ) (l x m : ℕ) → linkPlace m ≤ length s → x < m → l ≡ x → linkPlace l + 5 < length s
-unfolding linkPlace
-link-inside s l x m h g e = omega arith
+pub link-room : (s d e : List ℕ) (x m l at : ℕ) → Storing d e (linkPlace 0) (linkCopy s) x m → linkPlace m ≤ length d → x < m → l ≡ x → at ≡ linkPlace l → at + 5 < length e
+link-room s d e x m l at S h g q p = rw (p, S .long) (link-inside d l x m h g q)
 
 pub link-copied : (s d e e′ : List ℕ) (l m at a b w : ℕ) → Storing d e (linkPlace 0) (linkCopy s) l m → l < m → at ≡ linkPlace l → a ≡ endA s l → b ≡ endB s l → w ≡ linkWeight s l
     → e′ ≡ put e at (linkRecord a b w) → Storing d e′ (linkPlace 0) (linkCopy s) (l + 1) m
@@ -112,6 +111,10 @@ unfolding rowLength rowWeights
 row-room s homes d e h j k at S room l p = let q = row-before h j k l in let g = S .long in omega arith
 
 -- ---- the whole file
+
+pub links-room : (d e : List ℕ) (h : Network) → fileLength h ≤ length d → length e ≡ length d → linkPlace (h .m) ≤ length e
+unfolding fileLength rowPlace homePlace linkPlace
+links-room d e h l q = omega arith
 
 pub file-filled : (s homes d e f g r : List ℕ) (h : Network) (n : ℕ) → e ≡ put d 0 (headerBytes h) → f ≡ put e (linkPlace 0) (flat (linkCopy s) (h .m)) → n ≡ homeRecords h
     → g ≡ put f (homePlace h 0) (flat (homeOf homes) n) → r ≡ put g (rowPlace h 0) (flat (filledRow s homes (h .m)) (h .k)) → r ≡ put d 0 (filledFile s homes h)

@@ -2,8 +2,8 @@
 // weights on the links that the homes leave normal. `put_set` promises the lent file with exactly those bytes at its front. It asks for
 // what the verdicts before it have settled: the links stand in the graph's file, their ends have homes, and the lent file has room. So
 // no byte of a row is tested again.
+use layout::link_fields;
 use layout::link_place;
-use layout::link_there;
 use layout::record;
 use layout::row_place;
 use rules::Network;
@@ -20,14 +20,14 @@ ghost use Rattle.filling.specs.Filled.{LinksIn, linkCopy, weightIn, fill
 
 // The links, as in the graph.
 fn put_links(graph: &[u8], file: &mut [u8], m: u16)
-    requires { ⌜ linkPlace m ≤ length (now graph) ⌝ }
+    requires { ⌜ (linkPlace m ≤ length (now graph)) × (linkPlace m ≤ length (now file)) ⌝ }
     ensures { λ _. ⌜ now (file .exit) ≡ put (now (file .entry)) (linkPlace 0) (flat (linkCopy (now (graph .entry))) m) ⌝ }
 {
     let mut x: u16 = 0;
     while x < m {
         let l = x as usize;
-        let link = link_there(graph, l);
-        record::link(file, link_place(l), link.a, link.b, link.weight);
+        let link = link_fields(graph, l);
+        record::link_within(file, link_place(l), link.a, link.b, link.weight);
         x += 1;
     }
 }
@@ -39,7 +39,7 @@ fn weight_in(graph: &[u8], homes: &[u8], i: u8, l: usize) -> u16
     requires { ⌜ (endA (now graph) l < length (now homes)) × (endB (now graph) l < length (now homes)) ⌝ }
     ensures { λ r. ⌜ r ≡ weightIn (now (graph .entry)) (now (homes .entry)) i l ⌝ }
 {
-    let link = link_there(graph, l);
+    let link = link_fields(graph, l);
     let home_a = within(homes, link.a as usize);
     let home_b = within(homes, link.b as usize);
     if home_a == i {

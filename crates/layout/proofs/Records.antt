@@ -1,9 +1,9 @@
 -- A record's fields, read together; fields stored one after the other are the record; home records in turn are all of them.
 use mathlib.Core.Path.{_≡_, refl, _∙_}
 use mathlib.Core.List.{List, [], _∷_, _++_}
-use Prim.Native.Nat.{ℕ, _+_, _<_}
+use Prim.Native.Nat.{ℕ, _+_, _/_, _%_, _≤_, _<_}
 use native.Mathlib.Omega.{arith}
-use lib.ListN.{getD}
+use lib.ListN.{length, getD}
 use Rattle.rules.specs.declared.Network.{Network}
 use Rattle.rules.specs.Limits.{linkPlace, homePlace}
 use Rattle.rules.specs.File.{bytes2, headerBytes, two, endA, endB, linkWeight}
@@ -19,9 +19,10 @@ pub fields-there : (s : List ℕ) (l at x y a b w : ℕ) → at ≡ linkPlace l 
 unfolding endA endB linkWeight
 fields-there s l at x y a b w e ex ey ea eb ew = record { first = ex ∙ rw e; second = ey ∙ rw e; end-a = ea ∙ rw e; end-b = eb ∙ rw e; weight = ew ∙ rw e }
 
-pub fields-each : (s : List ℕ) (l at x y a b w : ℕ) → at ≡ linkPlace l → x ≡ getD s at 0 → y ≡ getD s (at + 1) 0 → a ≡ endA s l → b ≡ endB s l → w ≡ linkWeight s l
-    → LinkAt s l (record { x = x; y = y; a = a; b = b; weight = w })
-fields-each s l at x y a b w e ex ey ea eb ew = record { first = ex ∙ rw e; second = ey ∙ rw e; end-a = ea; end-b = eb; weight = ew }
+-- a link before the last of those that stand in the file does
+pub link-inside : (s : List ℕ) (l x m : ℕ) → linkPlace m ≤ length s → x < m → l ≡ x → linkPlace l + 5 < length s
+unfolding linkPlace
+link-inside s l x m h g e = omega arith
 
 -- ---- records stored
 
@@ -40,6 +41,12 @@ pub link-put : (d e e′ : List ℕ) (at a b w : ℕ) → e ≡ put d at (0x4C �
 unfolding linkRecord
 link-put d e e′ at a b w p q = put-then d e e′ at (at + 4) (0x4C ∷ 0x4B ∷ a ∷ b ∷ []) (bytes2 w) p q refl
 
+pub whole-put : (d e e′ e″ : List ℕ) (at a b w : ℕ) → e ≡ put d at (0x4C ∷ 0x4B ∷ []) → e′ ≡ put e (at + 2) (a ∷ b ∷ []) → e″ ≡ put e′ (at + 4) (w / 256 ∷ w % 256 ∷ [])
+    → e″ ≡ put d at (linkRecord a b w)
+unfolding linkRecord bytes2
+whole-put d e e′ e″ at a b w p q r =
+    put-then d e′ e″ at (at + 4) (0x4C ∷ 0x4B ∷ a ∷ b ∷ []) (w / 256 ∷ w % 256 ∷ []) (put-then d e e′ at (at + 2) (0x4C ∷ 0x4B ∷ []) (a ∷ b ∷ []) p q refl) r refl
+
 pub home-put : (d e : List ℕ) (at v t : ℕ) → e ≡ put d at (0x48 ∷ 0x4D ∷ v ∷ t ∷ []) → e ≡ put d at (homeRecord v t)
 unfolding homeRecord
 home-put d e at v t p = p
@@ -54,4 +61,4 @@ unfolding homePlace homeOf homeRecord
 homes-more h homes d e e′ v n at t s g p et q =
     storing-more d e e′ _ (homeOf homes) v n at 4 _ s g (λ i _. refl) (omega arith) (rw et) q
 
-pub ruleset records = (marked-put, header-put, link-put, home-put, head-put, storing-none, storing-done, homes-more)
+pub ruleset records = (marked-put, header-put, link-put, whole-put, home-put, head-put, storing-none, storing-done, homes-more)

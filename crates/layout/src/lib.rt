@@ -91,7 +91,7 @@ pub fn link_weight(file: &[u8], l: usize) -> u16
 
 // All of link l's record, where the file reaches that far.
 // Rules out: the ends exchanged; the weight of the link after.
-pub fn link_there(file: &[u8], l: usize) -> LinkFields
+pub fn link_fields(file: &[u8], l: usize) -> LinkFields
     requires { ⌜ l < 16777216 ⌝ }
     requires { ⌜ linkPlace l + 5 < length (now file) ⌝ }
     ensures { λ r. ⌜ LinkAt (now (file .entry)) l r ⌝ }
@@ -103,25 +103,6 @@ pub fn link_there(file: &[u8], l: usize) -> LinkFields
         a: within(file, at + 2),
         b: within(file, at + 3),
         weight: two_within(file, at + 4),
-    }
-}
-
-// The same in any file. One test does for all its bytes where the file reaches that far.
-// Rules out: the ends exchanged; the weight of the link after.
-pub fn link_fields(file: &[u8], l: usize) -> LinkFields
-    requires { ⌜ l < 16777216 ⌝ }
-    ensures { λ r. ⌜ LinkAt (now (file .entry)) l r ⌝ }
-{
-    let at = link_place(l);
-    if at + 5 < file.len() {
-        return link_there(file, l);
-    }
-    LinkFields {
-        x: byte(file, at),
-        y: byte(file, at + 1),
-        a: end_a(file, l),
-        b: end_b(file, l),
-        weight: link_weight(file, l),
     }
 }
 

@@ -5,10 +5,12 @@ use rules::Network;
 use slices::store::byte;
 use slices::store::four;
 use slices::store::number;
+use slices::store::pair;
 use slices::store::two;
 ghost use mathlib.Core.Path.{_≡_};
 ghost use mathlib.Core.List.{[], _∷_};
-ghost use Prim.Native.Nat.{_<_};
+ghost use Prim.Native.Nat.{_+_, _<_};
+ghost use lib.ListN.{length};
 ghost use Rattle.rules.specs.Basics.{flat};
 ghost use Rattle.rules.specs.Limits.{homePlace};
 ghost use Rattle.rules.specs.File.{headerBytes};
@@ -43,6 +45,17 @@ pub fn link(file: &mut [u8], at: usize, a: u8, b: u8, w: u16)
 {
     four(file, at, 0x4C, 0x4B, a, b);
     number(file, at + 4, w);
+}
+
+// A link record at a place where all of it is before the end.
+// Rules out: the weight with its lower byte first; end b before end a.
+pub fn link_within(file: &mut [u8], at: usize, a: u8, b: u8, w: u16)
+    requires { ⌜ at + 5 < length (now file) ⌝ }
+    ensures { λ _. ⌜ now (file .exit) ≡ put (now (file .entry)) at (linkRecord a b w) ⌝ }
+{
+    pair(file, at, 0x4C, 0x4B);
+    pair(file, at + 2, a, b);
+    pair(file, at + 4, (w / 256) as u8, (w % 256) as u8);
 }
 
 // A home record.

@@ -1,8 +1,9 @@
 use borrow.Author.Needs.{needs}
 use Rattle.slices.proofs.Stores.{Storing, storing-done, storing-none}
+use Rattle.layout.proofs.Records.{link-inside}
 use Rattle.rules.specs.Limits.{linkPlace}
 use Rattle.filling.specs.Filled.{linkCopy}
-use Rattle.filling.proofs.Stored.{link-copied, link-inside}
+use Rattle.filling.proofs.Stored.{link-copied, link-room}
 use Prim.Native.Nat.{_-_}
 use Rattle.filling.proofs.put_links.Statement.{statement}
 use Rattle.filling.proofs.put_links.Tie as tie
@@ -19,14 +20,14 @@ loop-holds c = search storing-none
 cast-l : tie.Need-cast-l Inv-loop μ-loop
 cast-l c = search needs
 
-link-there-requires : tie.Need-link-there-requires Inv-loop μ-loop
-link-there-requires c κs = (search needs, search link-inside)
+link-fields-requires : tie.Need-link-fields-requires Inv-loop μ-loop
+link-fields-requires c κs = (search needs, search link-inside)
 
 link-place-requires : tie.Need-link-place-requires Inv-loop μ-loop
 link-place-requires c κs = search needs
 
-link-requires : tie.Need-link-requires Inv-loop μ-loop
-link-requires c κs = search needs
+link-within-requires : tie.Need-link-within-requires Inv-loop μ-loop
+link-within-requires c κs = search link-room
 
 add-x : tie.Need-add-x Inv-loop μ-loop
 add-x c = search needs
@@ -51,9 +52,9 @@ put-links-spec =
     μ-loop
     loop-holds
     cast-l
-    link-there-requires
+    link-fields-requires
     link-place-requires
-    link-requires
+    link-within-requires
     add-x
     loop-less
     loop-again

@@ -1,4 +1,4 @@
-use Rattle.filling.proofs.Stored.{file-filled, links-long}
+use Rattle.filling.proofs.Stored.{file-filled, links-long, links-room}
 use Rattle.rules.specs.Limits.{fileLength}
 use borrow.Author.Needs.{needs}
 use Rattle.filling.proofs.put_set.Statement.{statement}
@@ -8,7 +8,7 @@ header-requires : tie.Need-header-requires
 header-requires c κs = search needs
 
 put-links-requires : tie.Need-put-links-requires
-put-links-requires c κs = search links-long
+put-links-requires c κs = (search links-long, search links-room)
 
 home-records-requires : tie.Need-home-records-requires
 home-records-requires c κs = search needs

@@ -3,8 +3,8 @@ use borrow.Author.Needs.{needs}
 use Rattle.filling.proofs.weight_in.Statement.{statement}
 use Rattle.filling.proofs.weight_in.Tie as tie
 
-link-there-requires : tie.Need-link-there-requires
-link-there-requires c κs = search needs
+link-fields-requires : tie.Need-link-fields-requires
+link-fields-requires c κs = search needs
 
 cast-within : tie.Need-cast-within
 cast-within c = search needs
@@ -31,7 +31,7 @@ pub weight-in-spec : {M : Type 1} → statement M
 weight-in-spec =
     tie.close
     (tie.spec
-    link-there-requires
+    link-fields-requires
     cast-within
     within-requires
     cast-within-2

@@ -1,0 +1,45 @@
+use Rattle.layout.proofs.Records.{records}
+use borrow.Author.Needs.{needs}
+use Rattle.layout.proofs.record.link_within.Statement.{statement}
+use Rattle.layout.proofs.record.link_within.Tie as tie
+
+pair-requires : tie.Need-pair-requires
+pair-requires c κs = search needs
+
+add-pair : tie.Need-add-pair
+add-pair c = search needs
+
+pair-requires-2 : tie.Need-pair-requires-2
+pair-requires-2 c κs = search needs
+
+add-pair-2 : tie.Need-add-pair-2
+add-pair-2 c = search needs
+
+cast-pair : tie.Need-cast-pair
+cast-pair c = search needs
+
+cast-pair-2 : tie.Need-cast-pair-2
+cast-pair-2 c = search needs
+
+pair-requires-3 : tie.Need-pair-requires-3
+pair-requires-3 c κs = search needs
+
+same-length : tie.Need-same-length
+same-length c = search needs
+
+returns : tie.Need-returns
+returns c = search records
+
+pub link-within-spec : {M : Type 1} → statement M
+link-within-spec =
+    tie.close
+    (tie.spec
+    pair-requires
+    add-pair
+    pair-requires-2
+    add-pair-2
+    cast-pair
+    cast-pair-2
+    pair-requires-3
+    same-length
+    returns)
