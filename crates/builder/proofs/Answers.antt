@@ -13,7 +13,7 @@ use Rattle.rules.specs.declared.Verdict.the-variants.{Accepted, Refused}
 use Rattle.rules.specs.declared.LengthAnswer.{LengthAnswer}
 use Rattle.rules.specs.declared.LengthAnswer.the-variants as long
 use Rattle.rules.specs.Basics.{need, all, laid}
-use Rattle.rules.specs.Limits.{linkPlace, homePlace, rowPlace, fileLength}
+use Rattle.rules.specs.Limits.{fileLength}
 use Rattle.rules.specs.File.{Set, encode, headerOf, setOf}
 use Rattle.rules.specs.Building.{firstFit, fits, highest, filled, built, spared, buildNumber}
 use Rattle.rules.specs.Judgement.{refuse, andThen, judge, needGraph, needCap, needFit, needRoom}
@@ -26,6 +26,7 @@ use Rattle.rules.proofs.File.Records.{file-meets}
 use Rattle.rules.proofs.File.Accepted as accepted
 use Rattle.rules.proofs.Building.BuildNumber.{zero-exactly}
 use Rattle.rules.proofs.Entries.Determined.{length-one}
+use Rattle.layout.proofs.Places.{links-end}
 use Rattle.topologyrules.proofs.Same.{WordsOf}
 use Rattle.checker.specs.Graph.{neighbourWords}
 use Rattle.checker.proofs.Graph.{words-of, accepted-few}
@@ -69,11 +70,10 @@ module _ (s homes d : List ℕ) (net set : Network) (k bytes : ℕ) (en : net �
 
   -- the links stand in the graph's file, and their ends have homes
   pub links-in : judge s ≡ Accepted → LinksIn s (set .m) (length homes)
-  unfolding fileLength rowPlace homePlace linkPlace
   links-in a =
       rw (es, el, en)
       (record {
-        long = (let e = file-meets s a .header .long in omega arith);
+        long = rw (file-meets s a .header .long) (links-end (headerOf s));
         a-below = λ l h. let e = file-meets s a .links l h .ends in omega arith;
         b-below = λ l h. file-meets s a .links l h .ends .1;
       })

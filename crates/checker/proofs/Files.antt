@@ -5,12 +5,13 @@ use Prim.Native.Nat.{ℕ, suc, _+_, _≤_, _<_}
 use native.Mathlib.Numerals.{add-one}
 use native.Mathlib.Omega.{arith}
 use lib.Dec.{eqb, leb}
-use lib.ListN.{replicate}
+use lib.ListN.{length, replicate}
 use borrow.Author.Tests.{leb-true}
 use Rattle.rules.specs.declared.Network.{Network}
 use Rattle.rules.specs.declared.Verdict.{Verdict}
 use Rattle.rules.specs.declared.Verdict.the-variants.{Accepted, Refused}
 use Rattle.rules.specs.Basics.{need}
+use Rattle.rules.specs.Limits.{linkPlace}
 use Rattle.rules.specs.File.{headerOf, endA, endB, homeTopology, setOf}
 use Rattle.rules.specs.Isolation.{word, isolatedWord, topologyNumber}
 use Rattle.rules.specs.Judgement.{refuse, andThen, inTurn, judge, needSet, topologies, check}
@@ -18,6 +19,7 @@ use Rattle.rules.specs.Answers.{tell, verdictTells}
 use Rattle.rules.specs.Entries.Entry.{onAccept, Promise, NothingLent}
 use Rattle.rules.specs.Entries.Check.{checkEntry}
 use Rattle.rules.proofs.Ground.Choices.{need-ok, refuse-no, refuse-ok, refuse-zero, then-on, then-stop, turn-none, turn-more, turn-stop, turn-done}
+use Rattle.layout.proofs.Places.{link-inside}
 use Rattle.words.specs.Word.{put}
 use Rattle.words.proofs.Members.{word-more}
 use Rattle.topologyrules.specs.Entered.{entered}
@@ -39,6 +41,9 @@ linked-more s l x y nb e f q ex ey p r = r ∙ rw (p, q, ex, ey, add-one)
 
 pub linked-done : (s : List ℕ) (l m : ℕ) (nb : List ℕ) → nb ≡ neighbourWords s l → l ≤ m → m ≤ l → nb ≡ neighbourWords s m
 linked-done s l m nb q h g = let e : l ≡ m = omega arith in q ∙ ap (neighbourWords s) e
+
+pub link-there : (s : List ℕ) (m l : ℕ) → Ends s m → l < m → linkPlace l + 5 < length s
+link-there s m l E h = link-inside s l l m (E .long) h refl
 
 pub a-low : (s : List ℕ) (m l x : ℕ) → Ends s m → l < m → x ≡ endA s l → x < 32
 a-low s m l x E h e = let q = E .a-low l h in omega arith

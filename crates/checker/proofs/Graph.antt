@@ -20,6 +20,7 @@ use Rattle.rules.proofs.Ground.Rows.{getD-upTo}
 use Rattle.rules.proofs.File.Records.{file-meets}
 use Rattle.rules.proofs.Isolation.HomesAndRows.{homes-all}
 use Rattle.rules.proofs.Isolation.Removal.{homeless-at}
+use Rattle.layout.proofs.Places.{links-end}
 use Rattle.words.specs.Word.{has, adding}
 use Rattle.words.proofs.Members.{has-none, has-adding, word-ext}
 use Rattle.topologyrules.specs.Entered.{entered}
@@ -119,7 +120,7 @@ pub accepted-ends : (s : List ℕ) → judge s ≡ Accepted → Ends s (headerOf
 accepted-ends s e =
     let f = file-meets s e in
     let n = f .header .limits .nodes .1 in
-    record { a-low = λ l h. let x = f .links l h .ends in omega (arith, x .0, x .1); b-low = λ l h. let x = f .links l h .ends in omega (arith, x .0, x .1) }
+    record { long = rw (f .header .long) (links-end (headerOf s)); a-low = λ l h. let x = f .links l h .ends in omega (arith, x .0, x .1); b-low = λ l h. let x = f .links l h .ends in omega (arith, x .0, x .1) }
 
 pub accepted-few : (s : List ℕ) → judge s ≡ Accepted → headerOf s .n ≤ 32
 accepted-few s e = file-meets s e .header .limits .nodes .1

@@ -1,10 +1,11 @@
 -- Each node's neighbours as a word, and a topology's isolated nodes as a word, gathered from a file's bytes.
 use mathlib.Core.List.{List}
 use mathlib.Core.Bool.{Bool}
-use Prim.Native.Nat.{ℕ, zero, suc, _<_}
+use Prim.Native.Nat.{ℕ, zero, suc, _≤_, _<_}
 use lib.Dec.{eqb}
-use lib.ListN.{replicate}
+use lib.ListN.{length, replicate}
 use Rattle.rules.specs.declared.Network.{Network}
+use Rattle.rules.specs.Limits.{linkPlace}
 use Rattle.rules.specs.File.{endA, endB, homeTopology}
 use Rattle.topologyrules.specs.Entered.{entered}
 
@@ -21,7 +22,8 @@ neighbourWords s m = linked (endA s) (endB s) (replicate 32 0) m
 unfoldable pub homeIs : List ℕ → Network → ℕ → ℕ → Bool
 homeIs s h i v = eqb (homeTopology s h v) i
 
--- the ends of the first m links are nodes below 32
+-- the first m links stand in the file, and their ends are nodes below 32
 pub record Ends (s : List ℕ) (m : ℕ) : Type 0 where
+  pub long : linkPlace m ≤ length s
   pub a-low : (l : ℕ) → l < m → endA s l < 32
   pub b-low : (l : ℕ) → l < m → endB s l < 32

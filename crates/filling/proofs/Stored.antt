@@ -18,7 +18,7 @@ use Rattle.rules.specs.Building.{onNormal}
 use Rattle.rules.proofs.Ground.Rows.{length-flat}
 use Rattle.slices.specs.Stores.{put}
 use Rattle.slices.proofs.Stores.{length-put, put-then, Storing, storing-more}
-use Rattle.layout.proofs.Records.{link-inside}
+use Rattle.layout.proofs.Places.{links-end, link-inside}
 use Rattle.layout.specs.Records.{linkRecord, homeRecord, homeOf, rowHead}
 use Rattle.filling.specs.Filled.{LinksIn, linkCopy, weightIn, filledBytes, filledRow, filledFile}
 
@@ -113,8 +113,7 @@ row-room s homes d e h j k at S room l p = let q = row-before h j k l in let g =
 -- ---- the whole file
 
 pub links-room : (d e : List ℕ) (h : Network) → fileLength h ≤ length d → length e ≡ length d → linkPlace (h .m) ≤ length e
-unfolding fileLength rowPlace homePlace linkPlace
-links-room d e h l q = omega arith
+links-room d e h l q = let k = links-end h in omega arith
 
 pub file-filled : (s homes d e f g r : List ℕ) (h : Network) (n : ℕ) → e ≡ put d 0 (headerBytes h) → f ≡ put e (linkPlace 0) (flat (linkCopy s) (h .m)) → n ≡ homeRecords h
     → g ≡ put f (homePlace h 0) (flat (homeOf homes) n) → r ≡ put g (rowPlace h 0) (flat (filledRow s homes (h .m)) (h .k)) → r ≡ put d 0 (filledFile s homes h)

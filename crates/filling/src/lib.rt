@@ -62,7 +62,12 @@ fn put_weights(graph: &[u8], homes: &[u8], file: &mut [u8], m: u16, at: usize, i
     while x < m {
         let l = x as usize;
         let w = weight_in(graph, homes, i, l);
-        pair(file, at + Network::WEIGHT * l, (w / 256) as u8, (w % 256) as u8);
+        pair(
+            file,
+            at + Network::WEIGHT * l,
+            (w / 256) as u8,
+            (w % 256) as u8,
+        );
         x += 1;
     }
 }

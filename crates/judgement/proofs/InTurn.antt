@@ -18,8 +18,10 @@ use Rattle.rules.specs.File.{headerOf, endA, endB, linkWeight, homeNode, homeTo
 use Rattle.rules.specs.Judgement.{refuse, inTurn, needMark, headerNumber, after, rises, linkNumber, homeNumber, rowWeightFits, rowNumber, records, judge}
 use Rattle.rules.proofs.Ground.Choices.{and-of, and-left, and-right, or-left, or-right, or-cases, clash, false-of, same-test, need-yes, need-no, need-ok, refuse-no, refuse-ok, then-ok, then-no, then-on, then-stop, turn-more, turn-stop, turn-done}
 use Rattle.rules.proofs.Ground.Numbers.{all-at}
+use Rattle.rules.proofs.File.Records.{header-meets}
 use Rattle.layout.specs.declared.LinkFields.{LinkFields}
 use Rattle.layout.specs.Fields.{LinkAt}
+use Rattle.layout.proofs.Places.{links-end}
 use Rattle.recordrules.specs.Rules.{headerRule, linkRule, homeRule, rowRule, weightRule}
 use Rattle.judgement.specs.Turns.{judged, homesThenRows, rankBefore, lowBefore}
 
@@ -50,6 +52,13 @@ unfolding headerRule headerNumber needMark
 header-number-is s h x y wanted fit rest number e r f w p q d = e ∙ rw (r, f, w, p, q, d)
 
 -- ---- links
+
+-- a file of the length that its header says has all its links
+pub links-there : (s : List ℕ) (h : Network) → length s ≡ fileLength h → linkPlace (h .m) ≤ length s
+links-there s h e = rw e (links-end h)
+
+pub header-long : (s : List ℕ) (h : Network) (number : ℕ) → h ≡ headerOf s → number ≡ headerNumber s → number ≡ 0 → length s ≡ fileLength h
+header-long s h number eh en z = header-meets s (sym en ∙ z) .long ∙ ap fileLength (sym eh)
 
 -- (c, d) comes after (a, b) exactly where 256 × c + d is the greater, both b and d being bytes
 after-is : (a b c d : ℕ) → b < 256 → d < 256 → after a b c d ≡ ltb (256 * a + b) (256 * c + d)

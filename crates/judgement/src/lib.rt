@@ -13,9 +13,10 @@ use rules::Network;
 use rules::Verdict;
 use slices::byte;
 ghost use mathlib.Core.Path.{_≡_};
-ghost use Prim.Native.Nat.{_<_};
+ghost use Prim.Native.Nat.{_≤_, _<_};
+ghost use lib.ListN.{length};
 ghost use Rattle.rules.specs.Basics.{need, all};
-ghost use Rattle.rules.specs.Limits.{linkPlace, homePlace, rowPlace};
+ghost use Rattle.rules.specs.Limits.{linkPlace, homePlace, rowPlace, fileLength};
 ghost use Rattle.rules.specs.File.{headerOf};
 ghost use Rattle.rules.specs.Judgement.{inTurn, headerNumber, linkNumber, homeNumber, rowWeightFits, rowNumber, records, judge};
 ghost use Rattle.judgement.specs.Turns.{judged, homesThenRows};
@@ -36,6 +37,7 @@ fn header_number(file: &[u8], net: Network) -> u8
 
 // The link records in turn.
 fn links(file: &[u8], net: Network) -> Verdict
+    requires { ⌜ linkPlace (net .m) ≤ length (now file) ⌝ }
     ensures { λ r. ⌜ r ≡ inTurn (judged (linkNumber (now (file .entry)) net) linkPlace) (net .m) ⌝ }
 {
     let m = net.m as usize;
@@ -166,8 +168,9 @@ fn homes_then_rows(file: &[u8], net: Network) -> Verdict
     }
 }
 
-// Each record after the header in turn.
+// Each record after the header in turn, in a file of the length that its header says.
 fn records(file: &[u8], net: Network) -> Verdict
+    requires { ⌜ length (now file) ≡ fileLength net ⌝ }
     ensures { λ r. ⌜ r ≡ records (now (file .entry)) net ⌝ }
 {
     let v = links(file, net);

@@ -1,9 +1,9 @@
 -- A record's fields, read together; fields stored one after the other are the record; home records in turn are all of them.
 use mathlib.Core.Path.{_≡_, refl, _∙_}
 use mathlib.Core.List.{List, [], _∷_, _++_}
-use Prim.Native.Nat.{ℕ, _+_, _/_, _%_, _≤_, _<_}
+use Prim.Native.Nat.{ℕ, _+_, _/_, _%_, _<_}
 use native.Mathlib.Omega.{arith}
-use lib.ListN.{length, getD}
+use lib.ListN.{getD}
 use Rattle.rules.specs.declared.Network.{Network}
 use Rattle.rules.specs.Limits.{linkPlace, homePlace}
 use Rattle.rules.specs.File.{bytes2, headerBytes, two, endA, endB, linkWeight}
@@ -18,11 +18,6 @@ pub fields-there : (s : List ℕ) (l at x y a b w : ℕ) → at ≡ linkPlace l 
     → LinkAt s l (record { x = x; y = y; a = a; b = b; weight = w })
 unfolding endA endB linkWeight
 fields-there s l at x y a b w e ex ey ea eb ew = record { first = ex ∙ rw e; second = ey ∙ rw e; end-a = ea ∙ rw e; end-b = eb ∙ rw e; weight = ew ∙ rw e }
-
--- a link before the last of those that stand in the file does
-pub link-inside : (s : List ℕ) (l x m : ℕ) → linkPlace m ≤ length s → x < m → l ≡ x → linkPlace l + 5 < length s
-unfolding linkPlace
-link-inside s l x m h g e = omega arith
 
 -- ---- records stored
 

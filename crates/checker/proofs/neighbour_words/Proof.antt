@@ -1,5 +1,5 @@
 use Prim.Native.Nat.{_-_, _≤_}
-use Rattle.checker.proofs.Files.{ends-low, linked-done, linked-more, linked-none}
+use Rattle.checker.proofs.Files.{ends-low, link-there, linked-done, linked-more, linked-none}
 use Rattle.checker.specs.Graph.{neighbourWords}
 use borrow.Author.Needs.{needs}
 use mathlib.Core.Path.{_≡_}
@@ -19,7 +19,7 @@ cast-link-fields : tie.Need-cast-link-fields Inv-loop μ-loop
 cast-link-fields c = search needs
 
 link-fields-requires : tie.Need-link-fields-requires Inv-loop μ-loop
-link-fields-requires c κs = search needs
+link-fields-requires c κs = (search needs, search link-there)
 
 enter-requires : tie.Need-enter-requires Inv-loop μ-loop
 enter-requires c κs = (search ends-low, search ends-low)

@@ -1,6 +1,6 @@
 use borrow.Author.Needs.{needs}
 use Rattle.slices.proofs.Stores.{Storing, storing-done, storing-none}
-use Rattle.layout.proofs.Records.{link-inside}
+use Rattle.layout.proofs.Places.{link-inside}
 use Rattle.rules.specs.Limits.{linkPlace}
 use Rattle.filling.specs.Filled.{linkCopy}
 use Rattle.filling.proofs.Stored.{link-copied, link-room}

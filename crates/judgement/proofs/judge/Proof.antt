@@ -1,5 +1,5 @@
 use borrow.Author.Needs.{needs}
-use Rattle.judgement.proofs.InTurn.{judging}
+use Rattle.judgement.proofs.InTurn.{header-long, judging}
 use Rattle.judgement.proofs.judge.Statement.{statement}
 use Rattle.judgement.proofs.judge.Tie as tie
 
@@ -13,7 +13,7 @@ returns : tie.Need-returns
 returns c = search judging
 
 records-requires : tie.Need-records-requires
-records-requires c κs = search needs
+records-requires c κs = search header-long
 
 returns-2 : tie.Need-returns-2
 returns-2 c = search judging

@@ -7,6 +7,7 @@ use Rattle.rules.specs.declared.Verdict.the-variants.{Accepted}
 use Rattle.rules.specs.Limits.{linkPlace}
 use Rattle.rules.specs.Judgement.{inTurn, linkNumber}
 use Rattle.judgement.specs.Turns.{judged}
+use Rattle.layout.proofs.Places.{link-inside}
 use Rattle.judgement.proofs.InTurn.{Ranked, link-turns, ranked-none}
 use Rattle.judgement.proofs.links.Statement.{statement}
 use Rattle.judgement.proofs.links.Tie as tie
@@ -27,7 +28,7 @@ link-place-requires : tie.Need-link-place-requires Inv-loop μ-loop
 link-place-requires c κs = omega arith
 
 link-fields-requires : tie.Need-link-fields-requires Inv-loop μ-loop
-link-fields-requires c κs = omega arith
+link-fields-requires c κs = (omega arith, search link-inside)
 
 rank-requires : tie.Need-rank-requires Inv-loop μ-loop
 rank-requires c κs = omega arith

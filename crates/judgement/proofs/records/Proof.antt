@@ -1,10 +1,10 @@
 use borrow.Author.Needs.{needs}
-use Rattle.judgement.proofs.InTurn.{judging}
+use Rattle.judgement.proofs.InTurn.{judging, links-there}
 use Rattle.judgement.proofs.records.Statement.{statement}
 use Rattle.judgement.proofs.records.Tie as tie
 
 links-requires : tie.Need-links-requires
-links-requires c κs = search needs
+links-requires c κs = search links-there
 
 enum-told : tie.Need-enum-told
 enum-told c = search needs
