@@ -1,4 +1,5 @@
 // Times of the proved entries beside the peers', as tables in Markdown. Every way must give the same bytes.
+#include "counted.h"
 #include "ours.h"
 #include "peers.h"
 #include <algorithm>
@@ -42,15 +43,26 @@ static vector<double> least(const vector<Way> &ways, const vector<Set> &sets) {
     return best;
 }
 
+[[noreturn]] static void other_bytes(const Set &s, const char *name) {
+    std::fprintf(stderr, "n = %d, m = %d, %s: not the bytes that the proved entry gives\n", s.n, s.m, name);
+    std::exit(1);
+}
+
 static void must_agree(const vector<Way> &ways, const Set &s) {
     vector<uint8_t> first(most_bytes, 7);
     size_t length = ways[0].call(s, first.data());
     for (const Way &way : ways) {
         vector<uint8_t> other(most_bytes, 7);
         if (way.call(s, other.data()) == length && std::equal(first.begin(), first.begin() + length, other.begin())) continue;
-        std::fprintf(stderr, "n = %d, m = %d, %s: not the bytes that the proved entry gives\n", s.n, s.m, way.name);
-        std::exit(1);
+        other_bytes(s, way.name);
     }
+}
+
+// Microseconds, to two places below ten.
+static std::string micros(double time) {
+    char text[32];
+    std::snprintf(text, sizeof text, time < 10 ? "%.2f" : "%.1f", time);
+    return text;
 }
 
 static void heading(const char *what, const char *first, const vector<Way> &ways) {
@@ -67,8 +79,10 @@ static vector<double> row(const Size &size, int count, const vector<Way> &ways) 
     for (int j = 0; j < count; j++) sets.push_back(make_set(size, j));
     for (const Set &s : sets) must_agree(ways, s);
     vector<double> times = least(ways, sets);
-    std::printf("| %s%s | %.1f |", label(size).c_str(), count > 1 ? (": " + std::to_string(count) + " sets").c_str() : "", times[0]);
-    for (size_t w = 1; w < times.size(); w++) std::printf(" %.1f (%.1f) |", times[w], times[w] / times[0]);
+    std::string name = label(size);
+    if (count > 1) name += ": " + std::to_string(count) + (size.k ? " sets" : " graphs");
+    std::printf("| %s | %s |", name.c_str(), micros(times[0]).c_str());
+    for (size_t w = 1; w < times.size(); w++) std::printf(" %s (%.2f) |", micros(times[w]).c_str(), times[w] / times[0]);
     std::printf("\n");
     std::fflush(stdout);
     return times;
@@ -114,8 +128,32 @@ static void over_tests(const char *what) {
     peer("LEMON", lemon_connected);
     peer("igraph", igraph_connected);
     heading(what, "n, m", ways);
-    for (const Size &size : graph_sizes) row(size, 1, ways);
-    for (const Size &size : graph_sizes) row(size, size.variety, ways);
+    vector<vector<double>> rows;
+    for (const Size &size : graph_sizes) rows.push_back(row(size, 1, ways));
+    for (const Size &size : graph_sizes) rows.push_back(row(size, size.variety, ways));
+    bool first = std::all_of(rows.begin(), rows.end(), [](const vector<double> &times) { return times[0] <= times[1]; });
+    std::printf("\nWhat is asked of the builder: at every size no slower than the one by hand: %s.\n", holds(first));
+}
+
+// The proved builder's work on each size: on one graph, and the mean over different ones.
+static void work() {
+    std::printf("\n### Tests that the builder makes\n\n");
+    std::printf("| n, m | tests of a topology | nodes looked from | isolated nodes asked for two links |\n|---|---|---|---|\n");
+    for (bool different : {false, true})
+        for (const Size &size : graph_sizes) {
+            Work sum;
+            int count = different ? size.variety : 1;
+            for (int j = 0; j < count; j++) {
+                Set graph = make_set(size, j);
+                vector<uint8_t> proved(most_bytes), other(most_bytes);
+                size_t length;
+                Work one = counted(graph, other.data(), &length);
+                if (our_build(graph, proved.data()) != length || proved != other) other_bytes(graph, "the model that counts");
+                sum.tests += one.tests, sum.looked_from += one.looked_from, sum.asked += one.asked;
+            }
+            std::printf("| %s%s | %ld | %ld | %ld |\n", label(size).c_str(), different ? (": " + std::to_string(count) + " graphs").c_str() : "",
+                        sum.tests / count, sum.looked_from / count, sum.asked / count);
+        }
 }
 
 static size_t one_pass(const Set &s, uint8_t *) {
@@ -147,5 +185,6 @@ int main() {
     bar("Different sets in turn", tables[3], tables[4], 2);
     over_engines("Report", our_report, peer_report);
     over_tests("Build");
+    work();
     without_peers();
 }
