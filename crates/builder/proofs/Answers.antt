@@ -55,6 +55,17 @@ refuses number h = sym (refuse-no number 0 h)
 
 -- ---- finish
 
+-- the links stand in the graph's file, and their ends have homes
+pub links-in : (s homes : List ℕ) (net set : Network) (k : ℕ) → judge s ≡ Accepted → net ≡ headerOf s → length homes ≡ net .n
+    → set ≡ record { n = net .n; m = net .m; k = k; wmax = net .wmax } → LinksIn s (set .m) (length homes)
+links-in s homes net set k a en el es =
+    rw (es, el, en)
+    (record {
+      long = rw (file-meets s a .header .long) (links-end (headerOf s));
+      a-below = λ l h. let e = file-meets s a .links l h .ends in omega arith;
+      b-below = λ l h. file-meets s a .links l h .ends .1;
+    })
+
 module _ (s homes d : List ℕ) (net set : Network) (k bytes : ℕ) (en : net ≡ headerOf s) (el : length homes ≡ net .n) (ek : k ≡ highest homes (length homes))
     (es : set ≡ record { n = net .n; m = net .m; k = k; wmax = net .wmax }) (eb : bytes ≡ fileLength set) where
   set-is : set ≡ filled (setOf s) homes .net
@@ -68,17 +79,7 @@ module _ (s homes d : List ℕ) (net set : Network) (k bytes : ℕ) (en : net �
   unfolding needRoom
   room-is v ev = ev ∙ rw long-is
 
-  -- the links stand in the graph's file, and their ends have homes
-  pub links-in : judge s ≡ Accepted → LinksIn s (set .m) (length homes)
-  links-in a =
-      rw (es, el, en)
-      (record {
-        long = rw (file-meets s a .header .long) (links-end (headerOf s));
-        a-below = λ l h. let e = file-meets s a .links l h .ends in omega arith;
-        b-below = λ l h. file-meets s a .links l h .ends .1;
-      })
-
-  -- and the lent file has room
+  -- the lent file has room
   pub room-there : (v : Verdict) → v ≡ refuse (need (leb bytes (length d)) 14 0) 0 → v ≡ Accepted → fileLength set ≤ length d
   room-there v ev t = rw (← eb) (leb-true bytes (length d) (need-ok (leb bytes (length d)) 13 0 (refuse-zero _ 0 (sym ev ∙ t)) .0))
 

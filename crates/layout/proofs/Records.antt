@@ -1,5 +1,5 @@
 -- A record's fields, read together; fields stored one after the other are the record; home records in turn are all of them.
-use mathlib.Core.Path.{_≡_, refl, _∙_}
+use mathlib.Core.Path.{_≡_, refl, sym, _∙_}
 use mathlib.Core.List.{List, [], _∷_, _++_}
 use Prim.Native.Nat.{ℕ, _+_, _/_, _%_, _<_}
 use native.Mathlib.Omega.{arith}
@@ -9,6 +9,7 @@ use Rattle.rules.specs.Limits.{linkPlace, homePlace}
 use Rattle.rules.specs.File.{bytes2, headerBytes, two, endA, endB, linkWeight}
 use Rattle.slices.specs.Stores.{put}
 use Rattle.slices.proofs.Stores.{put-then, Storing, storing-none, storing-done, storing-more}
+use Rattle.layout.specs.declared.LinkFields.{LinkFields}
 use Rattle.layout.specs.Fields.{LinkAt}
 use Rattle.layout.specs.Records.{linkRecord, homeRecord, homeOf, rowHead}
 
@@ -18,6 +19,16 @@ pub fields-there : (s : List ℕ) (l at x y a b w : ℕ) → at ≡ linkPlace l 
     → LinkAt s l (record { x = x; y = y; a = a; b = b; weight = w })
 unfolding endA endB linkWeight
 fields-there s l at x y a b w e ex ey ea eb ew = record { first = ex ∙ rw e; second = ey ∙ rw e; end-a = ea ∙ rw e; end-b = eb ∙ rw e; weight = ew ∙ rw e }
+
+-- two records that the promise allows coincide
+pub one-link : (s : List ℕ) (l : ℕ) (r r′ : LinkFields) → LinkAt s l r → LinkAt s l r′ → r ≡ r′
+one-link s l r r′ p q =
+    same (r .x) (r′ .x) (r .y) (r′ .y) (r .a) (r′ .a) (r .b) (r′ .b) (r .weight) (r′ .weight)
+    (p .first ∙ sym (q .first)) (p .second ∙ sym (q .second)) (p .end-a ∙ sym (q .end-a)) (p .end-b ∙ sym (q .end-b)) (p .weight ∙ sym (q .weight))
+  where
+    same : (x x′ y y′ a a′ b b′ w w′ : ℕ) → x ≡ x′ → y ≡ y′ → a ≡ a′ → b ≡ b′ → w ≡ w′
+        → _≡_ {A = LinkFields} (record { x = x; y = y; a = a; b = b; weight = w }) (record { x = x′; y = y′; a = a′; b = b′; weight = w′ })
+    same x x′ y y′ a a′ b b′ w w′ ex ey ea eb ew = rw (ex, ey, ea, eb, ew)
 
 -- ---- records stored
 

@@ -8,7 +8,7 @@ use native.Mathlib.Omega.{arith}
 use lib.Count.{ones}
 use lib.Dec.{eqb, ltb, leb}
 use lib.ListN.{getD, set}
-use borrow.Author.Tests.{eqb-true, eq-eqb, ne-eqb, ltb-true, lt-ltb, le-leb, lt-leb, not-true}
+use borrow.Author.Tests.{eqb-true, eq-eqb, ne-eqb, ltb-true, lt-ltb, not-true}
 use Rattle.rules.specs.Basics.{need, all}
 use Rattle.rules.specs.Sets.{Walk}
 use Rattle.rules.proofs.Ground.Choices.{and-of, and-left, and-right, or-left, or-right, or-cases, clash, false-of}
@@ -86,7 +86,7 @@ module _ (nb : List ℕ) (bb root left waiting v : ℕ) (G : Growing nb bb root 
   not-left : has left v ≡ false
   not-left = G .waits v (found-it .1) .1
 
-  module _ (y found left′ rest waiting′ : ℕ) (ey : y ≡ getD nb v 0) (ef : found ≡ both y left) (el : left′ ≡ minus left found)
+  module _ (y found left′ rest waiting′ : ℕ) (ef : found ≡ both y left) (el : left′ ≡ minus left found)
       (er : rest ≡ removing waiting v) (ew : waiting′ ≡ either rest found) where
     found-fits : found < 2 ^ 32
     found-fits = rw ef (both-low y left (G .fits))
@@ -131,8 +131,8 @@ module _ (nb : List ℕ) (bb root left waiting v : ℕ) (G : Growing nb bb root 
             pick (inl p) = or-right (has left x) (has waiting x) (and-left (has waiting x) (not (eqb x v)) p)
             pick (inr p) = or-left (has left x) (has waiting x) (and-right (has y x) (has left x) p)
 
-    pub grow-more : bb < 2 ^ 32 → has bb root ≡ true → (left ≡ 0 → ⊥) → Growing nb bb root left′ waiting′
-    grow-more R i some =
+    pub grow-more : y ≡ getD nb v 0 → bb < 2 ^ 32 → has bb root ≡ true → (left ≡ 0 → ⊥) → Growing nb bb root left′ waiting′
+    grow-more ey R i some =
         record {
           fits = left-fits;
           fits-waiting = waiting-fits;
@@ -242,7 +242,7 @@ pub part-full : (nb : List ℕ) (bb r : ℕ) (t : Bool) → (bb ≡ 0 → ⊥) �
 unfolding connectedBy
 part-full nb bb r t ne er et = et ∙ rw (ne-eqb bb 0 ne, er)
 
--- ---- all_served
+-- ---- served, all_served
 
 -- each isolated node below n that is not left has its two links
 pub record Serving (nb : List ℕ) (iso bb n left : ℕ) : Type 0 where
@@ -261,23 +261,22 @@ serve-start nb iso bb n f left R ef el =
     at : (x : ℕ) → has left x ≡ (has iso x && ltb x n)
     at x = rw (el, ef) (has-both iso (firsts n) x ∙ ap (λ (t : Bool). has iso x && t) (has-first n x))
 
+pub served-at : (nb : List ℕ) (bb v y near c : ℕ) → y ≡ getD nb v 0 → near ≡ both y bb → c ≡ ones near → leb 2 c ≡ leb 2 (ones (both (getD nb v 0) bb))
+served-at nb bb v y near c ey en ec = rw (ec, en, ey)
+
 pub served-low : (nb : List ℕ) (iso bb n left v : ℕ) → Serving nb iso bb n left → (left ≡ 0 → ⊥) → v ≡ lowestIn left → v < 32
 served-low nb iso bb n left v S ne ev = lowest-there left v (S .fits) ne ev .0
 
-module _ (nb : List ℕ) (iso bb n left v y joined c : ℕ) (S : Serving nb iso bb n left) (ne : left ≡ 0 → ⊥) (ev : v ≡ lowestIn left) (ey : y ≡ getD nb v 0)
-    (ej : joined ≡ both y bb) (ec : c ≡ ones joined) where
+module _ (nb : List ℕ) (iso bb n left v : ℕ) (S : Serving nb iso bb n left) (ne : left ≡ 0 → ⊥) (ev : v ≡ lowestIn left) where
   next : (v < 32) × (has left v ≡ true)
   next = lowest-there left v (S .fits) ne ev
 
-  counted : c ≡ ones (both (getD nb v 0) bb)
-  counted = ec ∙ rw (ej, ey)
-
-  pub serve-out : c < 2 → false ≡ allServed nb iso bb n
+  pub serve-out : (t : Bool) → t ≡ leb 2 (ones (both (getD nb v 0) bb)) → t ≡ false → false ≡ allServed nb iso bb n
   unfolding allServed servedBy
-  serve-out few =
+  serve-out t e f =
       let p = S .inside v (next .1) in
       sym (false-of (all (servedBy nb iso bb) n)
-      (λ e. clash (leb 2 c) (rw counted (or-else (has iso v) (leb 2 (ones (both (getD nb v 0) bb))) (p .0) (all-at (servedBy nb iso bb) n e v (p .1)))) (lt-leb 2 c few)))
+      (λ q. clash (leb 2 (ones (both (getD nb v 0) bb))) (or-else (has iso v) (leb 2 (ones (both (getD nb v 0) bb))) (p .0) (all-at (servedBy nb iso bb) n q v (p .1))) (sym e ∙ f)))
     where
       or-else : (i t : Bool) → i ≡ true → (not i || t) ≡ true → t ≡ true
       or-else true t e p = p
@@ -296,21 +295,21 @@ module _ (nb : List ℕ) (iso bb n left v y joined c : ℕ) (S : Serving nb iso 
     pub serve-less : ones left′ < ones left
     serve-less = fewer-ones left′ left v fewer (S .fits) (next .0) was (at-less v (next .0) ∙ rw (eq-eqb v v refl) (and-false (has left v))) (next .1)
 
-    pub serve-more : iso < 2 ^ 32 → 2 ≤ c → Serving nb iso bb n left′
-    serve-more R two =
+    pub serve-more : (t : Bool) → t ≡ leb 2 (ones (both (getD nb v 0) bb)) → t ≡ true → iso < 2 ^ 32 → Serving nb iso bb n left′
+    serve-more t e f R =
         record {
           fits = fewer;
           inside = λ x q. S .inside x (was x q);
           enough = λ x l i o. each x l i o (eqb x v) refl;
         }
       where
-        each : (x : ℕ) → x < n → has iso x ≡ true → has left′ x ≡ false → (t : Bool) → eqb x v ≡ t → leb 2 (ones (both (getD nb x 0) bb)) ≡ true
-        each x l i o true e = rw (eqb-true x v e, ← counted) (le-leb 2 c two)
-        each x l i o false e = S .enough x l i (out (has left x) refl)
+        each : (x : ℕ) → x < n → has iso x ≡ true → has left′ x ≡ false → (u : Bool) → eqb x v ≡ u → leb 2 (ones (both (getD nb x 0) bb)) ≡ true
+        each x l i o true q = rw (eqb-true x v q) (sym e ∙ f)
+        each x l i o false q = S .enough x l i (out (has left x) refl)
           where
-            out : (t : Bool) → has left x ≡ t → has left x ≡ false
+            out : (u : Bool) → has left x ≡ u → has left x ≡ false
             out false p = p
-            out true p = absurd (clash (has left′ x) (at-less x (has-bound 32 iso x R i) ∙ rw (p, e)) o)
+            out true p = absurd (clash (has left′ x) (at-less x (has-bound 32 iso x R i) ∙ rw (p, q)) o)
 
 pub serve-done : (nb : List ℕ) (iso bb n left : ℕ) → Serving nb iso bb n left → left ≡ 0 → true ≡ allServed nb iso bb n
 unfolding allServed servedBy

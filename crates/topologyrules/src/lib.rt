@@ -17,8 +17,10 @@ use words::size;
 ghost use mathlib.Core.Path.{_≡_};
 ghost use mathlib.Core.Bool.{true};
 ghost use Prim.Native.Nat.{_<_, _≤_};
-ghost use lib.Dec.{eqb};
-ghost use Rattle.words.specs.Word.{has};
+ghost use lib.Count.{ones};
+ghost use lib.Dec.{eqb, leb};
+ghost use lib.ListN.{getD};
+ghost use Rattle.words.specs.Word.{has, both};
 ghost use Rattle.topologyrules.specs.Entered.{entered};
 ghost use Rattle.topologyrules.specs.Topology.{backboneWord, reachedWord, connectedBy, allServed, numberBy};
 
@@ -65,6 +67,13 @@ pub fn connected(nb: &[u32], bb: u32) -> bool
     joined(nb, bb, lowest(bb))
 }
 
+// Node v has two neighbours in the backbone.
+fn served(nb: &[u32], bb: u32, v: u8) -> bool
+    ensures { λ r. ⌜ r ≡ leb 2 (ones (both (getD (now (nb .entry)) v 0) bb)) ⌝ }
+{
+    size(both(word(nb, v as usize), bb)) >= 2
+}
+
 // Each isolated node has two neighbours in the backbone.
 fn all_served(nb: &[u32], iso: u32, bb: u32, n: u8) -> bool
     requires { ⌜ (1 ≤ n) × (n ≤ 32) ⌝ }
@@ -73,11 +82,12 @@ fn all_served(nb: &[u32], iso: u32, bb: u32, n: u8) -> bool
     let mut left = both(iso, firsts(n));
     while left != 0 {
         let v = lowest(left);
-        let near = both(word(nb, v as usize), bb);
-        if size(near) < 2 {
+        let enough = served(nb, bb, v);
+        if enough {
+            left = removing(left, v);
+        } else {
             return false;
         }
-        left = removing(left, v);
     }
     true
 }

@@ -22,20 +22,8 @@ loop-holds c = search serve-start
 lowest-requires : tie.Need-lowest-requires Inv-loop μ-loop
 lowest-requires c κs = search needs
 
-cast-word : tie.Need-cast-word Inv-loop μ-loop
-cast-word c = search needs
-
-word-requires : tie.Need-word-requires Inv-loop μ-loop
-word-requires c κs = search needs
-
-both-requires-2 : tie.Need-both-requires-2 Inv-loop μ-loop
-both-requires-2 c κs = search needs
-
-size-requires : tie.Need-size-requires Inv-loop μ-loop
-size-requires c κs = search needs
-
-returns : tie.Need-returns Inv-loop μ-loop
-returns c = search serve-out
+served-requires : tie.Need-served-requires Inv-loop μ-loop
+served-requires c κs = search needs
 
 removing-requires : tie.Need-removing-requires Inv-loop μ-loop
 removing-requires c κs = search served-low
@@ -45,6 +33,9 @@ loop-less c = search serve-less
 
 loop-again : tie.Need-loop-again Inv-loop μ-loop
 loop-again c = search serve-more
+
+returns : tie.Need-returns Inv-loop μ-loop
+returns c = search serve-out
 
 returns-2 : tie.Need-returns-2 Inv-loop μ-loop
 returns-2 c = search serve-done
@@ -59,12 +50,9 @@ all-served-spec =
     both-requires
     loop-holds
     lowest-requires
-    cast-word
-    word-requires
-    both-requires-2
-    size-requires
-    returns
+    served-requires
     removing-requires
     loop-less
     loop-again
+    returns
     returns-2)
