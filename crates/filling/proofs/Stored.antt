@@ -2,7 +2,7 @@
 use mathlib.Core.Path.{_≡_, refl, ap, _∙_}
 use mathlib.Core.Bool.{Bool, true, false}
 use mathlib.Core.List.{List, [], _∷_, _++_}
-use Prim.Native.Nat.{ℕ, suc, _+_, _*_, _/_, _%_, _≤_, _<_}
+use Prim.Native.Nat.{ℕ, suc, _+_, _*_, _≤_, _<_}
 use native.Mathlib.Nat.{zero-mul, suc-mul, mul-le-mul}
 use native.Mathlib.Numerals.{add-one}
 use native.Mathlib.Omega.{arith}
@@ -77,7 +77,7 @@ pub weight-inside : (s homes d e : List ℕ) (base i x m l : ℕ) → Storing d 
 weight-inside s homes d e base i x m l S h g q = let k = S .long in omega arith
 
 pub weight-filled : (s homes d e e′ : List ℕ) (base i x m l w : ℕ) → Storing d e base (filledBytes s homes i) x m → x < m → l ≡ x → w ≡ weightIn s homes i l
-    → e′ ≡ put e (base + 2 * l) (w / 256 ∷ w % 256 ∷ []) → Storing d e′ base (filledBytes s homes i) (x + 1) m
+    → e′ ≡ put e (base + 2 * l) (bytes2 w) → Storing d e′ base (filledBytes s homes i) (x + 1) m
 unfolding filledBytes bytes2
 weight-filled s homes d e e′ base i x m l w S g el ew q =
     storing-more d e e′ base (filledBytes s homes i) x m (base + 2 * l) 2 _ S g (λ y _. refl) (omega arith) (ap bytes2 (ew ∙ ap (weightIn s homes i) el)) q

@@ -7,7 +7,7 @@ use layout::link_place;
 use layout::record;
 use layout::row_place;
 use rules::Network;
-use slices::store::pair;
+use slices::store::number_within;
 use slices::within;
 ghost use mathlib.Core.Path.{_≡_};
 ghost use Prim.Native.Nat.{_+_, _*_, _≤_, _<_};
@@ -62,12 +62,7 @@ fn put_weights(graph: &[u8], homes: &[u8], file: &mut [u8], m: u16, at: usize, i
     while x < m {
         let l = x as usize;
         let w = weight_in(graph, homes, i, l);
-        pair(
-            file,
-            at + Network::WEIGHT * l,
-            (w / 256) as u8,
-            (w % 256) as u8,
-        );
+        number_within(file, at + Network::WEIGHT * l, w);
         x += 1;
     }
 }

@@ -1,7 +1,7 @@
 -- A record's fields, read together; fields stored one after the other are the record; home records in turn are all of them.
 use mathlib.Core.Path.{_≡_, refl, sym, _∙_}
 use mathlib.Core.List.{List, [], _∷_, _++_}
-use Prim.Native.Nat.{ℕ, _+_, _/_, _%_, _<_}
+use Prim.Native.Nat.{ℕ, _+_, _<_}
 use native.Mathlib.Omega.{arith}
 use lib.ListN.{getD}
 use Rattle.rules.specs.declared.Network.{Network}
@@ -47,11 +47,11 @@ pub link-put : (d e e′ : List ℕ) (at a b w : ℕ) → e ≡ put d at (0x4C �
 unfolding linkRecord
 link-put d e e′ at a b w p q = put-then d e e′ at (at + 4) (0x4C ∷ 0x4B ∷ a ∷ b ∷ []) (bytes2 w) p q refl
 
-pub whole-put : (d e e′ e″ : List ℕ) (at a b w : ℕ) → e ≡ put d at (0x4C ∷ 0x4B ∷ []) → e′ ≡ put e (at + 2) (a ∷ b ∷ []) → e″ ≡ put e′ (at + 4) (w / 256 ∷ w % 256 ∷ [])
+pub whole-put : (d e e′ e″ : List ℕ) (at a b w : ℕ) → e ≡ put d at (0x4C ∷ 0x4B ∷ []) → e′ ≡ put e (at + 2) (a ∷ b ∷ []) → e″ ≡ put e′ (at + 4) (bytes2 w)
     → e″ ≡ put d at (linkRecord a b w)
-unfolding linkRecord bytes2
+unfolding linkRecord
 whole-put d e e′ e″ at a b w p q r =
-    put-then d e′ e″ at (at + 4) (0x4C ∷ 0x4B ∷ a ∷ b ∷ []) (w / 256 ∷ w % 256 ∷ []) (put-then d e e′ at (at + 2) (0x4C ∷ 0x4B ∷ []) (a ∷ b ∷ []) p q refl) r refl
+    put-then d e′ e″ at (at + 4) (0x4C ∷ 0x4B ∷ a ∷ b ∷ []) (bytes2 w) (put-then d e e′ at (at + 2) (0x4C ∷ 0x4B ∷ []) (a ∷ b ∷ []) p q refl) r refl
 
 pub home-put : (d e : List ℕ) (at v t : ℕ) → e ≡ put d at (0x48 ∷ 0x4D ∷ v ∷ t ∷ []) → e ≡ put d at (homeRecord v t)
 unfolding homeRecord

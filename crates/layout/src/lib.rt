@@ -90,7 +90,7 @@ pub fn link_weight(file: &[u8], l: usize) -> u16
 }
 
 // All of link l's record, where the file reaches that far.
-// Rules out: the ends exchanged; the weight of the link after.
+// Rules out: the ends exchanged `ends_exchanged`; the weight of the link after.
 pub fn link_fields(file: &[u8], l: usize) -> LinkFields
     requires { ⌜ l < 16777216 ⌝ }
     requires { ⌜ linkPlace l + 5 < length (now file) ⌝ }

@@ -5,6 +5,7 @@ use rules::Network;
 use slices::store::byte;
 use slices::store::four;
 use slices::store::number;
+use slices::store::number_within;
 use slices::store::pair;
 use slices::store::two;
 ghost use mathlib.Core.Path.{_≡_};
@@ -16,6 +17,11 @@ ghost use Rattle.rules.specs.Limits.{homePlace};
 ghost use Rattle.rules.specs.File.{headerBytes};
 ghost use Rattle.slices.specs.Stores.{put};
 ghost use Rattle.layout.specs.Records.{linkRecord, homeRecord, homeOf, rowHead};
+
+// The mark of a link.
+const L: u8 = 0x4C;
+
+const K: u8 = 0x4B;
 
 // A mark and the byte after it.
 fn marked(file: &mut [u8], at: usize, x: u8, y: u8, z: u8)
@@ -43,19 +49,19 @@ pub fn link(file: &mut [u8], at: usize, a: u8, b: u8, w: u16)
     requires { ⌜ at < 134217728 ⌝ }
     ensures { λ _. ⌜ now (file .exit) ≡ put (now (file .entry)) at (linkRecord a b w) ⌝ }
 {
-    four(file, at, 0x4C, 0x4B, a, b);
+    four(file, at, L, K, a, b);
     number(file, at + 4, w);
 }
 
 // A link record at a place where all of it is before the end.
-// Rules out: the weight with its lower byte first; end b before end a.
+// Rules out: the weight with its lower byte first `slices/lower_byte_first`; end b before end a.
 pub fn link_within(file: &mut [u8], at: usize, a: u8, b: u8, w: u16)
     requires { ⌜ at + 5 < length (now file) ⌝ }
     ensures { λ _. ⌜ now (file .exit) ≡ put (now (file .entry)) at (linkRecord a b w) ⌝ }
 {
-    pair(file, at, 0x4C, 0x4B);
+    pair(file, at, L, K);
     pair(file, at + 2, a, b);
-    pair(file, at + 4, (w / 256) as u8, (w % 256) as u8);
+    number_within(file, at + 4, w);
 }
 
 // A home record.

@@ -17,7 +17,7 @@ pub fn byte(bytes: &mut [u8], at: usize, x: u8)
 }
 
 // Two bytes at a place where both are before the end.
-// Rules out: the two bytes exchanged; the byte before altered.
+// Rules out: the first in the place of the second `first_byte_stored_twice`; the byte before altered.
 pub fn pair(bytes: &mut [u8], at: usize, x: u8, y: u8)
     requires { ⌜ at + 1 < length (now bytes) ⌝ }
     ensures { λ _. ⌜ now (bytes .exit) ≡ put (now (bytes .entry)) at (x ∷ y ∷ []) ⌝ }
@@ -54,7 +54,16 @@ pub fn four(bytes: &mut [u8], at: usize, w: u8, x: u8, y: u8, z: u8)
     }
 }
 
-// A number as two bytes, the higher first.
+// A number as two bytes, the higher first, at a place where both are before the end.
+// Rules out: the lower byte first `lower_byte_first`; the byte before altered.
+pub fn number_within(bytes: &mut [u8], at: usize, w: u16)
+    requires { ⌜ at + 1 < length (now bytes) ⌝ }
+    ensures { λ _. ⌜ now (bytes .exit) ≡ put (now (bytes .entry)) at (bytes2 w) ⌝ }
+{
+    pair(bytes, at, (w / 256) as u8, (w % 256) as u8);
+}
+
+// The same at any place.
 // Rules out: the lower byte first `weight_bytes_swapped`; a third byte altered.
 pub fn number(bytes: &mut [u8], at: usize, w: u16)
     requires { ⌜ at < 4294967296 ⌝ }

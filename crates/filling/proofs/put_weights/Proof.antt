@@ -1,8 +1,8 @@
-use borrow.Author.Needs.{needs}
-use Rattle.slices.proofs.Stores.{Storing, storing-done, storing-none}
-use Rattle.filling.specs.Filled.{filledBytes}
-use Rattle.filling.proofs.Stored.{a-below, b-below, place-inside, weight-filled, weight-inside}
 use Prim.Native.Nat.{_-_}
+use Rattle.filling.proofs.Stored.{a-below, b-below, place-inside, weight-filled, weight-inside}
+use Rattle.filling.specs.Filled.{filledBytes}
+use Rattle.slices.proofs.Stores.{Storing, storing-done, storing-none}
+use borrow.Author.Needs.{needs}
 use Rattle.filling.proofs.put_weights.Statement.{statement}
 use Rattle.filling.proofs.put_weights.Tie as tie
 
@@ -21,20 +21,14 @@ cast-l c = search needs
 weight-in-requires : tie.Need-weight-in-requires Inv-loop μ-loop
 weight-in-requires c κs = (search needs, (search place-inside, (search a-below, search b-below)))
 
-mul-pair : tie.Need-mul-pair Inv-loop μ-loop
-mul-pair c = search needs
+mul-number-within : tie.Need-mul-number-within Inv-loop μ-loop
+mul-number-within c = search needs
 
-add-pair : tie.Need-add-pair Inv-loop μ-loop
-add-pair c = search needs
+add-number-within : tie.Need-add-number-within Inv-loop μ-loop
+add-number-within c = search needs
 
-cast-pair : tie.Need-cast-pair Inv-loop μ-loop
-cast-pair c = search needs
-
-cast-pair-2 : tie.Need-cast-pair-2 Inv-loop μ-loop
-cast-pair-2 c = search needs
-
-pair-requires : tie.Need-pair-requires Inv-loop μ-loop
-pair-requires c κs = search weight-inside
+number-within-requires : tie.Need-number-within-requires Inv-loop μ-loop
+number-within-requires c κs = search weight-inside
 
 add-x : tie.Need-add-x Inv-loop μ-loop
 add-x c = search needs
@@ -60,11 +54,9 @@ put-weights-spec =
     loop-holds
     cast-l
     weight-in-requires
-    mul-pair
-    add-pair
-    cast-pair
-    cast-pair-2
-    pair-requires
+    mul-number-within
+    add-number-within
+    number-within-requires
     add-x
     loop-less
     loop-again

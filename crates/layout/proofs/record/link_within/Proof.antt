@@ -12,17 +12,11 @@ add-pair c = search needs
 pair-requires-2 : tie.Need-pair-requires-2
 pair-requires-2 c κs = search needs
 
-add-pair-2 : tie.Need-add-pair-2
-add-pair-2 c = search needs
+add-number-within : tie.Need-add-number-within
+add-number-within c = search needs
 
-cast-pair : tie.Need-cast-pair
-cast-pair c = search needs
-
-cast-pair-2 : tie.Need-cast-pair-2
-cast-pair-2 c = search needs
-
-pair-requires-3 : tie.Need-pair-requires-3
-pair-requires-3 c κs = search needs
+number-within-requires : tie.Need-number-within-requires
+number-within-requires c κs = search needs
 
 same-length : tie.Need-same-length
 same-length c = search needs
@@ -37,9 +31,7 @@ link-within-spec =
     pair-requires
     add-pair
     pair-requires-2
-    add-pair-2
-    cast-pair
-    cast-pair-2
-    pair-requires-3
+    add-number-within
+    number-within-requires
     same-length
     returns)
