@@ -1,7 +1,7 @@
 // The builder: a set for a graph. The graph's neighbour words are gathered from its bytes, first fit over them gives each node
 // its home (`firstfit`), and the set is filled in from these. `build` promises 01's answer for any bytes, cap and lent file:
 // refusals 1 to 6, 13, 11, 9, 10 and 14, or the set's bytes at the front of the file and their length. Nothing is stored before
-// everything is accepted.
+// everything is accepted. 9 comes before 10; both can arise only where first fit did not place every node, so 9 is tested there alone.
 use checker::neighbour_words;
 use filling::put_set;
 use firstfit::all_spared;
@@ -124,7 +124,8 @@ fn input_verdict(graph: &[u8], cap: u8) -> Verdict
 // The entry: a set for a graph with at most so many topologies, into a lent file.
 // Rules out: a node put into the last topology, where an earlier one admits it `firstfit/search_from_the_last_topology`; 10 where
 // a node other than the first holds the others together, which is 9 `firstfit/only_the_first_node_removed`; also
-// `one_topology_tried`, `room_for_the_graph_alone`, `firstfit/rules_for_the_new_node_only`.
+// `nine_where_ten_is_due`, `ten_where_nine_is_due`, `one_topology_tried`, `room_for_the_graph_alone`,
+// `firstfit/rules_for_the_new_node_only`.
 pub fn build(graph: &[u8], cap: u8, file: &mut [u8]) -> LengthAnswer
     ensures { λ r. ⌜ Promise buildEntry (record { file = now (graph .entry); cap = cap }) (now (file .entry)) r (now (file .exit)) ⌝ }
 {

@@ -42,7 +42,7 @@ linked-more s l x y nb e f q ex ey p r = r ∙ rw (p, q, ex, ey, add-one)
 pub linked-done : (s : List ℕ) (l m : ℕ) (nb : List ℕ) → nb ≡ neighbourWords s l → l ≤ m → m ≤ l → nb ≡ neighbourWords s m
 linked-done s l m nb q h g = let e : l ≡ m = omega arith in q ∙ ap (neighbourWords s) e
 
-pub link-there : (s : List ℕ) (m l : ℕ) → Ends s m → l < m → linkPlace l + 5 < length s
+pub link-there : (s : List ℕ) (m l : ℕ) → Ends s m → l < m → linkPlace (l + 1) ≤ length s
 link-there s m l E h = link-inside s l l m (E .long) h refl
 
 pub a-low : (s : List ℕ) (m l x : ℕ) → Ends s m → l < m → x ≡ endA s l → x < 32

@@ -24,13 +24,13 @@ use Rattle.filling.specs.Filled.{LinksIn, linkCopy, weightIn, filledByte
 
 -- ---- links
 
-pub link-room : (s d e : List ℕ) (x m l at : ℕ) → Storing d e (linkPlace 0) (linkCopy s) x m → linkPlace m ≤ length d → x < m → l ≡ x → at ≡ linkPlace l → at + 5 < length e
-link-room s d e x m l at S h g q p = rw (p, S .long) (link-inside d l x m h g q)
+pub link-room : (s d e : List ℕ) (x m l : ℕ) → Storing d e (linkPlace 0) (linkCopy s) x m → linkPlace m ≤ length d → x < m → l ≡ x → linkPlace (l + 1) ≤ length e
+link-room s d e x m l S h g q = rw (S .long) (link-inside d l x m h g q)
 
-pub link-copied : (s d e e′ : List ℕ) (l m at a b w : ℕ) → Storing d e (linkPlace 0) (linkCopy s) l m → l < m → at ≡ linkPlace l → a ≡ endA s l → b ≡ endB s l → w ≡ linkWeight s l
-    → e′ ≡ put e at (linkRecord a b w) → Storing d e′ (linkPlace 0) (linkCopy s) (l + 1) m
+pub link-copied : (s d e e′ : List ℕ) (l m a b w : ℕ) → Storing d e (linkPlace 0) (linkCopy s) l m → l < m → a ≡ endA s l → b ≡ endB s l → w ≡ linkWeight s l
+    → e′ ≡ put e (linkPlace l) (linkRecord a b w) → Storing d e′ (linkPlace 0) (linkCopy s) (l + 1) m
 unfolding linkPlace linkCopy linkRecord bytes2
-link-copied s d e e′ l m at a b w S g ep ea eb ew q = storing-more d e e′ 8 (linkCopy s) l m at 6 _ S g (λ i _. refl) (omega arith) (rw (ea, eb, ew)) q
+link-copied s d e e′ l m a b w S g ea eb ew q = storing-more d e e′ 8 (linkCopy s) l m (8 + 6 * l) 6 _ S g (λ i _. refl) (omega arith) (rw (ea, eb, ew)) q
 
 -- ---- rows
 
@@ -43,7 +43,7 @@ b-homed s homes l b e h = rw e h
 pub links-long : (s : List ℕ) (m n : ℕ) → LinksIn s m n → linkPlace m ≤ length s
 links-long s m n E = E .long
 
-pub place-inside : (s homes : List ℕ) (x m l : ℕ) → LinksIn s m (length homes) → x < m → l ≡ x → linkPlace l + 5 < length s
+pub place-inside : (s homes : List ℕ) (x m l : ℕ) → LinksIn s m (length homes) → x < m → l ≡ x → linkPlace (l + 1) ≤ length s
 place-inside s homes x m l E h e = link-inside s l x m (E .long) h e
 
 pub a-below : (s homes : List ℕ) (x m l : ℕ) → LinksIn s m (length homes) → x < m → l ≡ x → endA s l < length homes
@@ -82,8 +82,9 @@ unfolding filledBytes bytes2
 weight-filled s homes d e e′ base i x m l w S g el ew q =
     storing-more d e e′ base (filledBytes s homes i) x m (base + 2 * l) 2 _ S g (λ y _. refl) (omega arith) (ap bytes2 (ew ∙ ap (weightIn s homes i) el)) q
 
-pub head-room : (d e : List ℕ) (at i m : ℕ) → e ≡ put d at (rowHead i) → at + (3 + 2 * m) ≤ length d → at + 3 + 2 * m ≤ length e
-head-room d e at i m p h = let k = ap length p ∙ length-put d at (rowHead i) in omega arith
+pub head-room : (d e : List ℕ) (h : Network) (at i : ℕ) → e ≡ put d at (rowHead i) → at + rowLength h ≤ length d → at + 3 + 2 * h .m ≤ length e
+unfolding rowLength rowWeights
+head-room d e h at i p l = let k = ap length p ∙ length-put d at (rowHead i) in omega arith
 
 pub row-filled : (s homes d e e′ : List ℕ) (m at i j : ℕ) → i ≡ j + 1 → e ≡ put d at (rowHead i) → e′ ≡ put e (at + 3) (flat (filledBytes s homes i) m) → e′ ≡ put d at (filledRow s homes m j)
 unfolding filledRow rowHead
@@ -106,8 +107,7 @@ unfolding rowPlace
 row-before h j k l = let p : suc j * rowLength h ≤ k * rowLength h = mul-le-mul {n₁ = suc j} {n₂ = k} l (omega arith) in let q = suc-mul j (rowLength h) in omega arith
 
 pub row-room : (s homes d e : List ℕ) (h : Network) (j k at : ℕ) → Storing d e (rowPlace h 0) (filledRow s homes (h .m)) j k → rowPlace h k ≤ length d → j < k → at ≡ rowPlace h j
-    → at + (3 + 2 * h .m) ≤ length e
-unfolding rowLength rowWeights
+    → at + rowLength h ≤ length e
 row-room s homes d e h j k at S room l p = let q = row-before h j k l in let g = S .long in omega arith
 
 -- ---- the whole file

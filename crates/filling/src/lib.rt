@@ -3,7 +3,6 @@
 // what the verdicts before it have settled: the links stand in the graph's file, their ends have homes, and the lent file has room. So
 // no byte of a row is tested again.
 use layout::link_fields;
-use layout::link_place;
 use layout::record;
 use layout::row_place;
 use rules::Network;
@@ -13,7 +12,7 @@ ghost use mathlib.Core.Path.{_≡_};
 ghost use Prim.Native.Nat.{_+_, _*_, _≤_, _<_};
 ghost use Rattle.rules.specs.Basics.{flat};
 ghost use lib.ListN.{length};
-ghost use Rattle.rules.specs.Limits.{linkPlace, rowPlace, fileLength};
+ghost use Rattle.rules.specs.Limits.{rowLength, linkPlace, rowPlace, fileLength};
 ghost use Rattle.rules.specs.File.{endA, endB};
 ghost use Rattle.slices.specs.Stores.{put};
 ghost use Rattle.filling.specs.Filled.{LinksIn, linkCopy, weightIn, filledBytes, filledRow, filledFile};
@@ -27,7 +26,7 @@ fn put_links(graph: &[u8], file: &mut [u8], m: u16)
     while x < m {
         let l = x as usize;
         let link = link_fields(graph, l);
-        record::link_within(file, link_place(l), link.a, link.b, link.weight);
+        record::link_within(file, l, link.a, link.b, link.weight);
         x += 1;
     }
 }
@@ -35,7 +34,7 @@ fn put_links(graph: &[u8], file: &mut [u8], m: u16)
 // Link l's weight in topology i: topology 0's where neither end is isolated.
 fn weight_in(graph: &[u8], homes: &[u8], i: u8, l: usize) -> u16
     requires { ⌜ l < 65536 ⌝ }
-    requires { ⌜ linkPlace l + 5 < length (now graph) ⌝ }
+    requires { ⌜ linkPlace (l + 1) ≤ length (now graph) ⌝ }
     requires { ⌜ (endA (now graph) l < length (now homes)) × (endB (now graph) l < length (now homes)) ⌝ }
     ensures { λ r. ⌜ r ≡ weightIn (now (graph .entry)) (now (homes .entry)) i l ⌝ }
 {
@@ -68,16 +67,16 @@ fn put_weights(graph: &[u8], homes: &[u8], file: &mut [u8], m: u16, at: usize, i
 }
 
 // The row of topology j + 1.
-fn put_row(graph: &[u8], homes: &[u8], file: &mut [u8], m: u16, at: usize, j: u8)
+fn put_row(graph: &[u8], homes: &[u8], file: &mut [u8], net: Network, at: usize, j: u8)
     requires { ⌜ at < 536870912 ⌝ }
     requires { ⌜ j < 255 ⌝ }
-    requires { ⌜ LinksIn (now graph) m (length (now homes)) ⌝ }
-    requires { ⌜ at + (3 + 2 * m) ≤ length (now file) ⌝ }
-    ensures { λ _. ⌜ now (file .exit) ≡ put (now (file .entry)) at (filledRow (now (graph .entry)) (now (homes .entry)) m j) ⌝ }
+    requires { ⌜ LinksIn (now graph) (net .m) (length (now homes)) ⌝ }
+    requires { ⌜ at + rowLength net ≤ length (now file) ⌝ }
+    ensures { λ _. ⌜ now (file .exit) ≡ put (now (file .entry)) at (filledRow (now (graph .entry)) (now (homes .entry)) (net .m) j) ⌝ }
 {
     let i = j + 1;
     record::row_head(file, at, i);
-    put_weights(graph, homes, file, m, at + Network::ROW_HEAD, i);
+    put_weights(graph, homes, file, net.m, at + Network::ROW_HEAD, i);
 }
 
 fn put_rows(graph: &[u8], homes: &[u8], file: &mut [u8], net: Network, k: u8)
@@ -88,7 +87,7 @@ fn put_rows(graph: &[u8], homes: &[u8], file: &mut [u8], net: Network, k: u8)
     let mut j: u8 = 0;
     while j < k {
         let at = row_place(net, j as usize);
-        put_row(graph, homes, file, net.m, at, j);
+        put_row(graph, homes, file, net, at, j);
         j += 1;
     }
 }

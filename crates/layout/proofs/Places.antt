@@ -31,7 +31,7 @@ unfolding fileLength rowPlace homePlace linkPlace
 links-end h = omega arith
 
 -- a link before the last of those that stand in the file does
-pub link-inside : (s : List ℕ) (l x m : ℕ) → linkPlace m ≤ length s → x < m → l ≡ x → linkPlace l + 5 < length s
+pub link-inside : (s : List ℕ) (l x m : ℕ) → linkPlace m ≤ length s → x < m → l ≡ x → linkPlace (l + 1) ≤ length s
 unfolding linkPlace
 link-inside s l x m h g e = omega arith
 

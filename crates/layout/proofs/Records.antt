@@ -47,11 +47,11 @@ pub link-put : (d e e′ : List ℕ) (at a b w : ℕ) → e ≡ put d at (0x4C �
 unfolding linkRecord
 link-put d e e′ at a b w p q = put-then d e e′ at (at + 4) (0x4C ∷ 0x4B ∷ a ∷ b ∷ []) (bytes2 w) p q refl
 
-pub whole-put : (d e e′ e″ : List ℕ) (at a b w : ℕ) → e ≡ put d at (0x4C ∷ 0x4B ∷ []) → e′ ≡ put e (at + 2) (a ∷ b ∷ []) → e″ ≡ put e′ (at + 4) (bytes2 w)
-    → e″ ≡ put d at (linkRecord a b w)
+pub whole-put : (d e e′ e″ : List ℕ) (l at a b w : ℕ) → at ≡ linkPlace l → e ≡ put d at (0x4C ∷ 0x4B ∷ []) → e′ ≡ put e (at + 2) (a ∷ b ∷ []) → e″ ≡ put e′ (at + 4) (bytes2 w)
+    → e″ ≡ put d (linkPlace l) (linkRecord a b w)
 unfolding linkRecord
-whole-put d e e′ e″ at a b w p q r =
-    put-then d e′ e″ at (at + 4) (0x4C ∷ 0x4B ∷ a ∷ b ∷ []) (bytes2 w) (put-then d e e′ at (at + 2) (0x4C ∷ 0x4B ∷ []) (a ∷ b ∷ []) p q refl) r refl
+whole-put d e e′ e″ l at a b w i p q r =
+    rw (← i) (put-then d e′ e″ at (at + 4) (0x4C ∷ 0x4B ∷ a ∷ b ∷ []) (bytes2 w) (put-then d e e′ at (at + 2) (0x4C ∷ 0x4B ∷ []) (a ∷ b ∷ []) p q refl) r refl)
 
 pub home-put : (d e : List ℕ) (at v t : ℕ) → e ≡ put d at (0x48 ∷ 0x4D ∷ v ∷ t ∷ []) → e ≡ put d at (homeRecord v t)
 unfolding homeRecord

@@ -1,6 +1,6 @@
 // The layout of the house file: where its records stand, which follows from the counts of its header; their fields, read at those
-// places from any bytes; and the records, stored there (`record`). Places, fields and records are promised by the definitions of
-// 01's 'The file'. What a field may hold is the judgement's to say.
+// places, one by one from any bytes, or a link's together where its record is there; and the records, stored there (`record`).
+// Places, fields and records are promised by the definitions of 01's 'The file'. What a field may hold is the judgement's to say.
 pub mod record; // record.rt: the records as bytes
 
 use rules::Network;
@@ -9,7 +9,7 @@ use slices::two;
 use slices::two_within;
 use slices::within;
 ghost use mathlib.Core.Path.{_≡_};
-ghost use Prim.Native.Nat.{_+_, _<_};
+ghost use Prim.Native.Nat.{_+_, _≤_, _<_};
 ghost use lib.ListN.{length};
 ghost use Rattle.rules.specs.Limits.{linkPlace, homePlace, rowPlace};
 ghost use Rattle.rules.specs.File.{headerOf, endA, endB, linkWeight, homeTopology, rowWeight};
@@ -93,7 +93,7 @@ pub fn link_weight(file: &[u8], l: usize) -> u16
 // Rules out: the ends exchanged `ends_exchanged`; the weight of the link after.
 pub fn link_fields(file: &[u8], l: usize) -> LinkFields
     requires { ⌜ l < 16777216 ⌝ }
-    requires { ⌜ linkPlace l + 5 < length (now file) ⌝ }
+    requires { ⌜ linkPlace (l + 1) ≤ length (now file) ⌝ }
     ensures { λ r. ⌜ LinkAt (now (file .entry)) l r ⌝ }
 {
     let at = link_place(l);

@@ -1,6 +1,7 @@
-// The records of a file, stored at a place of a lent file. A byte past the file's end is stored nowhere, so no store asks for room:
-// that there is room is for a verdict to say.
+// The records of a file, stored at a place of a lent file. A byte past the file's end is stored nowhere, so no store asks for room but
+// `link_within`: that there is room is for a verdict to say.
 use crate::home_place;
+use crate::link_place;
 use rules::Network;
 use slices::store::byte;
 use slices::store::four;
@@ -10,10 +11,10 @@ use slices::store::pair;
 use slices::store::two;
 ghost use mathlib.Core.Path.{_≡_};
 ghost use mathlib.Core.List.{[], _∷_};
-ghost use Prim.Native.Nat.{_+_, _<_};
+ghost use Prim.Native.Nat.{_+_, _≤_, _<_};
 ghost use lib.ListN.{length};
 ghost use Rattle.rules.specs.Basics.{flat};
-ghost use Rattle.rules.specs.Limits.{homePlace};
+ghost use Rattle.rules.specs.Limits.{linkPlace, homePlace};
 ghost use Rattle.rules.specs.File.{headerBytes};
 ghost use Rattle.slices.specs.Stores.{put};
 ghost use Rattle.layout.specs.Records.{linkRecord, homeRecord, homeOf, rowHead};
@@ -53,12 +54,14 @@ pub fn link(file: &mut [u8], at: usize, a: u8, b: u8, w: u16)
     number(file, at + 4, w);
 }
 
-// A link record at a place where all of it is before the end.
+// Link l's record at its own place, where all of it is before the end.
 // Rules out: the weight with its lower byte first `slices/lower_byte_first`; end b before end a.
-pub fn link_within(file: &mut [u8], at: usize, a: u8, b: u8, w: u16)
-    requires { ⌜ at + 5 < length (now file) ⌝ }
-    ensures { λ _. ⌜ now (file .exit) ≡ put (now (file .entry)) at (linkRecord a b w) ⌝ }
+pub fn link_within(file: &mut [u8], l: usize, a: u8, b: u8, w: u16)
+    requires { ⌜ l < 16777216 ⌝ }
+    requires { ⌜ linkPlace (l + 1) ≤ length (now file) ⌝ }
+    ensures { λ _. ⌜ now (file .exit) ≡ put (now (file .entry)) (linkPlace l) (linkRecord a b w) ⌝ }
 {
+    let at = link_place(l);
     pair(file, at, L, K);
     pair(file, at + 2, a, b);
     number_within(file, at + 4, w);

@@ -56,8 +56,8 @@ fn joined(nb: &[u32], bb: u32, root: u8) -> bool
 }
 
 // The backbone is non-empty and connected by normal links.
-// Rules out: isolated nodes taken for reached `path_through_an_isolated_node`; yes for an empty backbone (the test for it left
-// out: `backbone_allowed_empty`).
+// Rules out: isolated nodes taken for reached `path_through_an_isolated_node`; yes while a node is left `growth_stopped_early`;
+// yes for an empty backbone (the test for it left out: `backbone_allowed_empty`).
 pub fn connected(nb: &[u32], bb: u32) -> bool
     ensures { λ r. ⌜ r ≡ connectedBy (now (nb .entry)) bb ⌝ }
 {
@@ -93,8 +93,8 @@ fn all_served(nb: &[u32], iso: u32, bb: u32, n: u8) -> bool
 }
 
 // 0, or the number of the rule that a topology of n nodes with these isolated nodes breaks: 7 before 8.
-// Rules out: 0 where an isolated node has only one restricted link `one_restricted_link_is_enough`; links between isolated nodes
-// counted as restricted `isolated_neighbours_counted`.
+// Rules out: 0 where an isolated node has only one restricted link `one_restricted_link_is_enough`, or the last has none
+// `last_isolated_node_not_asked`; links between isolated nodes counted as restricted `isolated_neighbours_counted`.
 pub fn topology_number(nb: &[u32], n: u8, iso: u32) -> u8
     requires { ⌜ (1 ≤ n) × (n ≤ 32) ⌝ }
     ensures { λ r. ⌜ r ≡ numberBy (now (nb .entry)) n iso ⌝ }

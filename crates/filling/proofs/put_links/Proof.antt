@@ -1,10 +1,10 @@
-use borrow.Author.Needs.{needs}
-use Rattle.slices.proofs.Stores.{Storing, storing-done, storing-none}
+use Prim.Native.Nat.{_-_}
+use Rattle.filling.proofs.Stored.{link-copied, link-room}
+use Rattle.filling.specs.Filled.{linkCopy}
 use Rattle.layout.proofs.Places.{link-inside}
 use Rattle.rules.specs.Limits.{linkPlace}
-use Rattle.filling.specs.Filled.{linkCopy}
-use Rattle.filling.proofs.Stored.{link-copied, link-room}
-use Prim.Native.Nat.{_-_}
+use Rattle.slices.proofs.Stores.{Storing, storing-done, storing-none}
+use borrow.Author.Needs.{needs}
 use Rattle.filling.proofs.put_links.Statement.{statement}
 use Rattle.filling.proofs.put_links.Tie as tie
 
@@ -23,11 +23,8 @@ cast-l c = search needs
 link-fields-requires : tie.Need-link-fields-requires Inv-loop μ-loop
 link-fields-requires c κs = (search needs, search link-inside)
 
-link-place-requires : tie.Need-link-place-requires Inv-loop μ-loop
-link-place-requires c κs = search needs
-
 link-within-requires : tie.Need-link-within-requires Inv-loop μ-loop
-link-within-requires c κs = search link-room
+link-within-requires c κs = (search needs, search link-room)
 
 add-x : tie.Need-add-x Inv-loop μ-loop
 add-x c = search needs
@@ -53,7 +50,6 @@ put-links-spec =
     loop-holds
     cast-l
     link-fields-requires
-    link-place-requires
     link-within-requires
     add-x
     loop-less
