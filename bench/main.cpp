@@ -28,9 +28,12 @@ static double turn(const Way &way, const vector<Set> &sets, int passes, uint8_t 
     return (now() - from) / (passes * sets.size());
 }
 
+// More rounds where a row is short: a slower spell of the machine should not fall on all of it.
+constexpr int some_rounds = 40, many_rounds = 160;
+
 // The least time of one call. The ways take turns, so that a slower spell of the machine falls on all alike. A turn is long, for the peers'
 // sake: a way that comes after others has its caches and branches to learn anew, and theirs are more.
-static vector<double> least(const vector<Way> &ways, const vector<Set> &sets) {
+static vector<double> least(const vector<Way> &ways, const vector<Set> &sets, int rounds) {
     vector<uint8_t> out(most_bytes);
     vector<double> best;
     vector<int> passes;
@@ -38,7 +41,7 @@ static vector<double> least(const vector<Way> &ways, const vector<Set> &sets) {
         best.push_back(turn(way, sets, 1, out.data()));
         passes.push_back(1 + (int)(5000 / (best.back() * sets.size())));
     }
-    for (int round = 0; round < 40; round++)
+    for (int round = 0; round < rounds; round++)
         for (size_t w = 0; w < ways.size(); w++) best[w] = std::min(best[w], turn(ways[w], sets, passes[w], out.data()));
     return best;
 }
@@ -74,11 +77,11 @@ static void heading(const char *what, const char *first, const vector<Way> &ways
 }
 
 // One row, ours first: this many sets of this size in turn.
-static vector<double> row(const Size &size, int count, const vector<Way> &ways) {
+static vector<double> row(const Size &size, int count, const vector<Way> &ways, int rounds) {
     vector<Set> sets;
     for (int j = 0; j < count; j++) sets.push_back(make_set(size, j));
     for (const Set &s : sets) must_agree(ways, s);
-    vector<double> times = least(ways, sets);
+    vector<double> times = least(ways, sets, rounds);
     std::string name = label(size);
     if (count > 1) name += ": " + std::to_string(count) + (size.k ? " sets" : " graphs");
     std::printf("| %s | %s |", name.c_str(), micros(times[0]).c_str());
@@ -113,8 +116,8 @@ static vector<vector<double>> over_engines(const char *what, size_t (*ours)(cons
     peer("igraph, Floyd-Warshall", igraph_floyd_warshall);
     heading(what, "n, m, k", ways);
     vector<vector<double>> rows;
-    for (const Size &size : set_sizes) rows.push_back(row(size, 1, ways));
-    for (const Size &size : set_sizes) rows.push_back(row(size, size.variety, ways));
+    for (const Size &size : set_sizes) rows.push_back(row(size, 1, ways, some_rounds));
+    for (const Size &size : set_sizes) rows.push_back(row(size, size.variety, ways, some_rounds));
     return rows;
 }
 
@@ -129,8 +132,8 @@ static void over_tests(const char *what) {
     peer("igraph", igraph_connected);
     heading(what, "n, m", ways);
     vector<vector<double>> rows;
-    for (const Size &size : graph_sizes) rows.push_back(row(size, 1, ways));
-    for (const Size &size : graph_sizes) rows.push_back(row(size, size.variety, ways));
+    for (const Size &size : graph_sizes) rows.push_back(row(size, 1, ways, many_rounds));
+    for (const Size &size : graph_sizes) rows.push_back(row(size, size.variety, ways, many_rounds));
     bool first = std::all_of(rows.begin(), rows.end(), [](const vector<double> &times) { return times[0] <= times[1]; });
     std::printf("\nWhat is asked of the builder: at every size no slower than the one by hand: %s.\n", holds(first));
 }
@@ -170,7 +173,7 @@ static void without_peers() {
                            {"`write`: laid from lists, judged, and copied", our_write},
                            {"`check`: judged and checked", our_check},
                            {"`run`, its tables among it", our_run}};
-    vector<double> times = least(ways, largest);
+    vector<double> times = least(ways, largest, some_rounds);
     std::printf("\n### Other entries, on the longest file (n, m, k = %s: %zu bytes)\n\n| | microseconds |\n|---|---|\n", label(set_sizes[0]).c_str(),
                 largest[0].file.size());
     for (size_t w = 0; w < ways.size(); w++) std::printf("| %s | %.1f |\n", ways[w].name, times[w]);

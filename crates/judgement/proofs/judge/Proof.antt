@@ -1,5 +1,5 @@
-use borrow.Author.Needs.{needs}
 use Rattle.judgement.proofs.InTurn.{header-long, judging}
+use borrow.Author.Needs.{needs}
 use Rattle.judgement.proofs.judge.Statement.{statement}
 use Rattle.judgement.proofs.judge.Tie as tie
 

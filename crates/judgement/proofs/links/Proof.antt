@@ -1,14 +1,14 @@
-use mathlib.Core.Path.{_≡_}
 use Prim.Native.Nat.{_-_, _≤_}
-use native.Mathlib.Omega.{arith}
-use borrow.Author.Needs.{needs}
-use Rattle.rules.proofs.Ground.Choices.{turn-none}
-use Rattle.rules.specs.declared.Verdict.the-variants.{Accepted}
-use Rattle.rules.specs.Limits.{linkPlace}
-use Rattle.rules.specs.Judgement.{inTurn, linkNumber}
+use Rattle.judgement.proofs.InTurn.{Ranked, link-turns, ranked-none}
 use Rattle.judgement.specs.Turns.{judged}
 use Rattle.layout.proofs.Places.{link-inside}
-use Rattle.judgement.proofs.InTurn.{Ranked, link-turns, ranked-none}
+use Rattle.rules.proofs.Ground.Choices.{turn-none}
+use Rattle.rules.specs.Judgement.{inTurn, linkNumber}
+use Rattle.rules.specs.Limits.{linkPlace}
+use Rattle.rules.specs.declared.Verdict.the-variants.{Accepted}
+use borrow.Author.Needs.{needs}
+use mathlib.Core.Path.{_≡_}
+use native.Mathlib.Omega.{arith}
 use Rattle.judgement.proofs.links.Statement.{statement}
 use Rattle.judgement.proofs.links.Tie as tie
 

@@ -1,5 +1,5 @@
-use borrow.Author.Needs.{needs}
 use Rattle.judgement.proofs.InTurn.{judging, links-there}
+use borrow.Author.Needs.{needs}
 use Rattle.judgement.proofs.records.Statement.{statement}
 use Rattle.judgement.proofs.records.Tie as tie
 
