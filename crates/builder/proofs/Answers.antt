@@ -15,7 +15,7 @@ use Rattle.rules.specs.declared.LengthAnswer.the-variants as long
 use Rattle.rules.specs.Basics.{need, all, laid}
 use Rattle.rules.specs.Limits.{fileLength}
 use Rattle.rules.specs.File.{Set, encode, headerOf, setOf}
-use Rattle.rules.specs.Building.{firstFit, fits, highest, filled, built, spared, buildNumber}
+use Rattle.rules.specs.Building.{firstFit, highest, filled, built, spared, buildNumber}
 use Rattle.rules.specs.Judgement.{refuse, andThen, judge, needGraph, needCap, needFit, needRoom}
 use Rattle.rules.specs.Answers.{tell, lengthTells}
 use Rattle.rules.specs.Entries.Entry.{onAccept, Promise}

@@ -34,12 +34,6 @@ link-copied s d e e′ l m a b w S g ea eb ew q = storing-more d e e′ 8 (linkC
 
 -- ---- rows
 
-pub a-homed : (s homes : List ℕ) (l a : ℕ) → a ≡ endA s l → endA s l < length homes → a < length homes
-a-homed s homes l a e h = rw e h
-
-pub b-homed : (s homes : List ℕ) (l b : ℕ) → b ≡ endB s l → endB s l < length homes → b < length homes
-b-homed s homes l b e h = rw e h
-
 pub links-long : (s : List ℕ) (m n : ℕ) → LinksIn s m n → linkPlace m ≤ length s
 links-long s m n E = E .long
 

@@ -55,9 +55,6 @@ two-inside d at x y = rw add-one
 pub two-past : (d e : List ℕ) (at x y : ℕ) → length d ≤ at + 1 → e ≡ put d at (x ∷ []) → e ≡ put d at (x ∷ y ∷ [])
 two-past d e at x y h p = put-then d e e at (at + 1) (x ∷ []) (y ∷ []) p (put-past e (at + 1) y (rw (p, length-put d at (x ∷ [])) h)) refl
 
-pub second-inside : (d e : List ℕ) (at : ℕ) (l : List ℕ) → at + 3 < length d → e ≡ put d at l → at + 2 + 1 < length e
-second-inside d e at l h p = rw (p, length-put d at l) (omega arith)
-
 pub four-put : (d e e′ : List ℕ) (at w x y z : ℕ) → e ≡ put d at (w ∷ x ∷ []) → e′ ≡ put e (at + 2) (y ∷ z ∷ []) → e′ ≡ put d at (w ∷ x ∷ y ∷ z ∷ [])
 four-put d e e′ at w x y z p q = put-then d e e′ at (at + 2) (w ∷ x ∷ []) (y ∷ z ∷ []) p q refl
 

@@ -1,4 +1,4 @@
-use Rattle.filling.proofs.Stored.{a-homed, b-homed, weight-a, weight-b, weight-normal}
+use Rattle.filling.proofs.Stored.{weight-a, weight-b, weight-normal}
 use borrow.Author.Needs.{needs}
 use Rattle.filling.proofs.weight_in.Statement.{statement}
 use Rattle.filling.proofs.weight_in.Tie as tie

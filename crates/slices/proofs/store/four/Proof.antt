@@ -1,4 +1,4 @@
-use Rattle.slices.proofs.Stores.{bytes, second-inside}
+use Rattle.slices.proofs.Stores.{bytes}
 use borrow.Author.Needs.{needs}
 use Rattle.slices.proofs.store.four.Statement.{statement}
 use Rattle.slices.proofs.store.four.Tie as tie
