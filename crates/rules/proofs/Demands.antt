@@ -1,4 +1,4 @@
--- Demands 1 to 3, each statement with its theorem.
+-- Demands 1 to 3, each statement with its theorem; then what 02 asks to be shown.
 use mathlib.Core.Path.{refl}
 use Rattle.rules.specs.File.{headerOf}
 use Rattle.rules.specs.Entries.Read.{readEntry}
@@ -11,6 +11,7 @@ use Rattle.rules.specs.Entries.Run.{runOf, runEntry}
 use Rattle.rules.specs.Entries.Report.{reportEntry}
 use Rattle.rules.specs.Demands.One.{noLengths, itsLength, listLengths, runLengths, Demand1}
 use Rattle.rules.specs.Demands.Two.{Demand2}
+use Rattle.rules.specs.Demands.Detections.{ExtrasAre}
 use Rattle.rules.specs.Demands.Three.{Demand3}
 use Rattle.rules.specs.Refusals.{RefusalsSaySo}
 use Rattle.rules.proofs.File.LaidOut.{files-laid-out}
@@ -30,6 +31,7 @@ use Rattle.rules.proofs.Building.BuiltAccepted.{built-accepted}
 use Rattle.rules.proofs.Building.BuildNumber.{nine-exactly, ten-exactly}
 use Rattle.rules.proofs.Report.Lines.{lines-are-runs}
 use Rattle.rules.proofs.Report.Coverage.{coverage}
+use Rattle.rules.proofs.Report.Extras.{extras-are}
 use Rattle.rules.proofs.Entries.Determined.{takes-every-input, verdict-one, read-one, length-one, step-one, run-one, length-says, read-says, verdict-says, step-says, run-says}
 use Rattle.rules.proofs.Entries.Read.{read-accepts, read-gives}
 use Rattle.rules.proofs.Entries.Write.{write-accepts, write-gives}
@@ -110,3 +112,7 @@ demand-3 =
       accepted-graphs = λ S A. record { connected = accepted-connected S A; removable = accepted-removable S A; links = links-enough S A };
       fewer-isolated = fewer-isolated;
     }
+
+-- 02, a: the extra hops of the report's lines
+pub request-a : ExtrasAre
+request-a = extras-are

@@ -1,4 +1,4 @@
--- 01, 'Examples': P1 to P12, through the entries' definitions.
+-- 01, 'Examples': P1 to P12, through the entries' definitions; and the report on the triangle, of 01 with 02's request a.
 use mathlib.Core.Path.{_≡_}
 use mathlib.Core.List.{List, [], _∷_, _++_}
 use Prim.Native.Nat.{ℕ}
@@ -9,6 +9,7 @@ use Rattle.rules.specs.Limits.{tablesLength, trailRoom}
 use Rattle.rules.specs.File.{Set, encode}
 use Rattle.rules.specs.Forwarding.{trail}
 use Rattle.rules.specs.Building.{filled}
+use Rattle.rules.specs.Report.{headerLine, reportText}
 use Rattle.rules.specs.Answers.{Told, accepted, refused, tell}
 use Rattle.rules.specs.Entries.Check.{checkEntry}
 use Rattle.rules.specs.Entries.Build.{BuildInput, builtFrom, buildEntry}
@@ -117,3 +118,28 @@ expected =
 -- the twelve examples hold of the definitions
 abbrev pub ExamplesHold : Type 0
 ExamplesHold = computed ≡ expected
+
+-- ---- the report on the triangle
+
+-- "The two T lines of the triangle's report end in -1 from now on; every other line there is unchanged." (02, a)
+unfoldable pub triangleReport : List ℕ
+triangleReport =
+    headerLine
+    -- 0 1 1 D 1 2 2 1
+    ++ ((48 ∷ 32 ∷ 49 ∷ 32 ∷ 49 ∷ 32 ∷ 68 ∷ 32 ∷ 49 ∷ 32 ∷ 50 ∷ 32 ∷ 50 ∷ 32 ∷ 49 ∷ 10 ∷ [])
+    -- 0 1 2 T 2 2 1 -1
+    ++ ((48 ∷ 32 ∷ 49 ∷ 32 ∷ 50 ∷ 32 ∷ 84 ∷ 32 ∷ 50 ∷ 32 ∷ 50 ∷ 32 ∷ 49 ∷ 32 ∷ 45 ∷ 49 ∷ 10 ∷ [])
+    -- 1 0 0 D 2 2 2 1
+    ++ ((49 ∷ 32 ∷ 48 ∷ 32 ∷ 48 ∷ 32 ∷ 68 ∷ 32 ∷ 50 ∷ 32 ∷ 50 ∷ 32 ∷ 50 ∷ 32 ∷ 49 ∷ 10 ∷ [])
+    -- 1 2 2 D 2 0 2 1
+    ++ ((49 ∷ 32 ∷ 50 ∷ 32 ∷ 50 ∷ 32 ∷ 68 ∷ 32 ∷ 50 ∷ 32 ∷ 48 ∷ 32 ∷ 50 ∷ 32 ∷ 49 ∷ 10 ∷ [])
+    -- 2 1 0 T 2 0 1 -1
+    ++ ((50 ∷ 32 ∷ 49 ∷ 32 ∷ 48 ∷ 32 ∷ 84 ∷ 32 ∷ 50 ∷ 32 ∷ 48 ∷ 32 ∷ 49 ∷ 32 ∷ 45 ∷ 49 ∷ 10 ∷ [])
+    -- 2 1 1 D 3 0 2 1
+    ++ ((50 ∷ 32 ∷ 49 ∷ 32 ∷ 49 ∷ 32 ∷ 68 ∷ 32 ∷ 51 ∷ 32 ∷ 48 ∷ 32 ∷ 50 ∷ 32 ∷ 49 ∷ 10 ∷ [])
+    -- detections 6
+    ++ (100 ∷ 101 ∷ 116 ∷ 101 ∷ 99 ∷ 116 ∷ 105 ∷ 111 ∷ 110 ∷ 115 ∷ 32 ∷ 54 ∷ 10 ∷ [])))))))
+
+-- the definitions give that report
+abbrev pub ReportHolds : Type 0
+ReportHolds = reportText triangleSet ≡ triangleReport

@@ -81,9 +81,19 @@ mostHops h = 2 * h .n - 3
 unfoldable pub trailRoom : Network → ℕ
 trailRoom h = 2 * h .n - 2
 
--- a report's header line; its lines, each at most seven numbers of two digits, a letter, seven spaces and a newline; its last line, `detections 992`
+-- the longest lines of a report: its header line; the line of a detection, with seven numbers of two digits, a minus sign, a letter, seven spaces and a
+-- newline; its last line, `detections 992`
+abbrev pub reportHeader : ℕ
+reportHeader = 44
+
+abbrev pub reportLine : ℕ
+reportLine = 24
+
+abbrev pub reportLast : ℕ
+reportLast = 15
+
 unfoldable pub reportRoom : Network → ℕ
-reportRoom h = 44 + h .n * (h .n - 1) * 23 + 15
+reportRoom h = reportHeader + h .n * (h .n - 1) * reportLine + reportLast
 
 -- the largest counts, and the longest file (9,192 bytes), tables, trail and report
 abbrev pub largest : Network

@@ -1,7 +1,8 @@
--- 01, 'The report program'.
+-- 01, 'The report program', with 02's request a.
 use mathlib.Core.List.{List, [], _∷_, _++_}
 use Prim.Native.Nat.{ℕ, zero, suc, _+_, _-_, _*_, _/_, _%_}
 use lib.Dec.{eqb, ltb}
+use lib.IntN.{ℤ, pos, negsuc, _-ℤ_}
 use Rattle.rules.specs.declared.Kind.{Kind}
 use Rattle.rules.specs.declared.Kind.the-variants as change
 use Rattle.rules.specs.declared.Packet.{Packet}
@@ -25,6 +26,11 @@ digits (suc more) x = if ltb x 10 then (48 + x) ∷ [] else digits more (x / 10)
 -- a number in decimal: twenty digits hold every number of 64 bits
 unfoldable pub decimal : ℕ → List ℕ
 decimal x = digits 19 x
+
+-- an integer: "printed with a minus sign where it is below zero" (02, a); negsuc x is -(x + 1)
+unfoldable pub signed : ℤ → List ℕ
+signed (pos x) = decimal x
+signed (negsuc x) = 45 ∷ decimal (x + 1)
 
 -- one space between fields, a newline after every line
 abbrev pub space : List ℕ
@@ -67,9 +73,9 @@ backupHops S u t = hops (runUnder S (link (detectedLink S u t)) u t)
 unfoldable pub plainHops : Set → ℕ → ℕ → ℕ
 plainHops S u t = hops (runUnder S nothing u t)
 
--- "extra, those hops minus the hops in topology 0, or 0 where the backup path is no longer"
-unfoldable pub extraHops : Set → ℕ → ℕ → ℕ
-extraHops S u t = backupHops S u t - plainHops S u t
+-- "extra becomes a signed count, backup hops minus hops in topology 0" (02, a)
+unfoldable pub extraHops : Set → ℕ → ℕ → ℤ
+extraHops S u t = pos (backupHops S u t) -ℤ pos (plainHops S u t)
 
 -- "the detecting node (the "seen from" column); its next hop in topology 0; the destination; T, S or D; the topology changed to; the neighbour
 -- taken; hops [..]; and extra"
@@ -82,7 +88,7 @@ detectionLine S u t =
     ++ (decimal (packetOf (detection S u t) .topology) ++ (space
     ++ (decimal (packetOf (detection S u t) .place) ++ (space
     ++ (decimal (backupHops S u t) ++ (space
-    ++ (decimal (extraHops S u t) ++ newline))))))))))))))
+    ++ (signed (extraHops S u t) ++ newline))))))))))))))
 
 -- "one line for each node and each other destination, by node, then destination"
 unfoldable pub detectionLines : Set → List ℕ

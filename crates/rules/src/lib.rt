@@ -76,14 +76,15 @@ impl Network {
     // A run makes at most 2n - 3 hops and visits one node more.
     pub const LONGEST_TRAIL: usize = 2 * (Network::MAX_NODES as usize) - 2;
 
-    // A line of a report has seven numbers of at most two digits, a letter, seven spaces and a newline.
-    pub const REPORT_HEAD: usize = 44;
+    // The longest lines of a report: its header line; a line with seven numbers of two digits, a minus sign, a letter, seven spaces
+    // and a newline; its last line.
+    pub const REPORT_HEADER: usize = 44;
 
-    pub const REPORT_LINE: usize = 23;
+    pub const REPORT_LINE: usize = 24;
 
     pub const REPORT_LAST: usize = 15;
 
-    pub const LONGEST_REPORT: usize = Network::REPORT_HEAD
+    pub const LONGEST_REPORT: usize = Network::REPORT_HEADER
         + (Network::MAX_NODES as usize) * (Network::MAX_NODES as usize - 1) * Network::REPORT_LINE
         + Network::REPORT_LAST;
 

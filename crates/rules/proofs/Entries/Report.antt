@@ -6,7 +6,7 @@ use lib.ListN.{length}
 use Rattle.rules.specs.declared.Verdict.the-variants.{Accepted}
 use Rattle.rules.specs.declared.LengthAnswer.the-variants as long
 use Rattle.rules.specs.Basics.{laid}
-use Rattle.rules.specs.Limits.{reportRoom, longest}
+use Rattle.rules.specs.Limits.{longest}
 use Rattle.rules.specs.File.{Set, setOf}
 use Rattle.rules.specs.Judgement.{needRoom}
 use Rattle.rules.specs.Report.{reportText}
@@ -50,5 +50,5 @@ report-gives S s before after r P M =
     }
 
 pub report-fits : ReportFits
-unfolding longest reportRoom
+unfolding longest
 report-fits S A = report-longest S A

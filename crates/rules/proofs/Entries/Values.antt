@@ -18,7 +18,7 @@ use Rattle.rules.specs.declared.Step.{Step}
 use Rattle.rules.specs.declared.Step.the-variants.{Delivered, Moved, Dropped}
 use Rattle.rules.specs.declared.Verdict.the-variants.{Accepted}
 use Rattle.rules.specs.Basics.{if_then_else_}
-use Rattle.rules.specs.Limits.{needCounts, fileLength, tablesLength, mostHops}
+use Rattle.rules.specs.Limits.{needCounts, fileLength, tablesLength, mostHops, reportRoom}
 use Rattle.rules.specs.File.{Set, headerOf, setOf}
 use Rattle.rules.specs.Isolation.{neighbours, home}
 use Rattle.rules.specs.Forwarding.{faultOf, up, Tables, tablesOf, packet, moveOrDrop, changeTo, blocked, toward, step, alternateNumber, changeNumber, towardNumber, lookupNumber, Run, stop, letter, onward, afterStep, run, runUnder}
@@ -108,7 +108,7 @@ tables-below s before e =
     length-below (tablesLength (headerOf s)) (longest-tables (headerOf s) w)
 
 pub report-below : (s before : List ℕ) → reportEntry .verdict s before ≡ Accepted → Below (9223372036854775808 ∷ []) (reportEntry .gives s before)
-unfolding reportEntry
+unfolding reportEntry reportRoom
 report-below s before e =
     length-below (length (reportText (setOf s))) (omega (arith, report-longest (setOf s) (checked-set s (then-first (check s) _ e))))
 

@@ -66,7 +66,7 @@ module _ (S : Set) (on : ℕ → ℕ → Bool) where
 -- ---- a line of the report
 
 -- a step that changes topology on its way to t
-abbrev Changes : ℕ → Step → Type 0
+abbrev pub Changes : ℕ → Step → Type 0
 Changes t (Delivered q) = ⊥
 Changes t (Moved q kind) = (q ≡ packet (q .place) t (q .topology)) × (1 ≤ q .topology) × (changed kind ≡ 1)
 Changes t (Dropped q) = ⊥
@@ -83,7 +83,7 @@ module _ (S : Set) (A : AcceptedSet S) (u t : ℕ) (lu : u < S .net .n) (lt : t 
   on = up S (link (detectedLink S u t))
 
   -- the link to the next hop is the one that is down
-  detected : (v : ℕ) → v ≡ nextHop S 0 u t → on u v ≡ true → ⊥
+  pub detected : (v : ℕ) → v ≡ nextHop S 0 u t → on u v ≡ true → ⊥
   unfolding up detectedLink
   detected v e o =
       let z : on u v ≡ false = rw (e, eq-eqb (linkBetween S u (nextHop S 0 u t)) (linkBetween S u (nextHop S 0 u t)) refl) in
@@ -101,6 +101,10 @@ module _ (S : Set) (A : AcceptedSet S) (u t : ℕ) (lu : u < S .net .n) (lt : t 
   changes s (around v d e o) = (refl, home-low S A u lu, refl)
   changes s (around-down v d e o) =
       keep-link S A (detectedLink S u t) (packet u t 0) (starts S A on u t lu lt) (inl refl) s (around-down v d e o)
+
+  pub detection-changes : Changes t (detection S u t)
+  unfolding detection
+  detection-changes = changes (detection S u t) (view S on (packet u t 0))
 
   line : (h : ℕ) (s : Step) → detection S u t ≡ s → Changes t s
       → LineIsRun S u t (afterStep s (λ q kind. onward (q .place) kind (run S (tablesOf S) on h q)))
@@ -123,7 +127,7 @@ module _ (S : Set) (A : AcceptedSet S) (u t : ℕ) (lu : u < S .net .n) (lt : t 
   line-is-run =
       let some : mostHops (S .net) ≡ suc (2 * S .net .n - 4) = omega (arith, A .rules .limits .nodes .0) in
       subst (λ (h : ℕ). LineIsRun S u t (run S (tablesOf S) on h (packet u t 0))) (sym some)
-      (line (2 * S .net .n - 4) (detection S u t) refl (changes (detection S u t) (view S on (packet u t 0))))
+      (line (2 * S .net .n - 4) (detection S u t) refl detection-changes)
 
 pub lines-are-runs : LinesAreRuns
 lines-are-runs S A u t lu lt ne = line-is-run S A u t lu lt ne

@@ -1,4 +1,5 @@
--- A report fits its room: every number of a line is below 100, so it has at most two digits, and the count of the last line is below 1,000.
+-- A report fits its room: every number of a line is below 100, the extra hops above -100, so they have at most two digits and a minus sign; and the count of the
+-- last line is below 1,000.
 use mathlib.Core.Path.{_≡_, refl, sym, ap, subst, _∙_}
 use mathlib.Core.Bool.{Bool, true, false}
 use mathlib.Core.List.{List, [], _∷_, _++_}
@@ -6,17 +7,19 @@ use Prim.Native.Nat.{ℕ, zero, suc, _+_, _-_, _*_, _/_, _%_, _≤_, _<_}
 use native.Mathlib.Nat.{mul-assoc, mul-le-mul, mul-le-mul-right, mod-eq-of-lt, suc-mul, zero-mul}
 use native.Mathlib.Omega.{arith}
 use lib.Dec.{eqb, ltb}
+use lib.IntN.{ℤ, pos, _-ℤ_}
 use lib.ListN.{length, length-append}
 use borrow.Author.Tests.{lt-ltb, le-ltb, eq-eqb, ltb-true, ltb-false, eqb-true, eqb-false}
 use Rattle.rules.specs.declared.Step.{Step}
 use Rattle.rules.specs.Basics.{if_then_else_, flat}
-use Rattle.rules.specs.Limits.{mostHops, reportRoom}
+use Rattle.rules.specs.Limits.{mostHops, reportLine, reportLast, largest, reportRoom}
 use Rattle.rules.specs.File.{Set}
 use Rattle.rules.specs.Distance.{nextHop}
-use Rattle.rules.specs.Forwarding.{link, up, packet, runUnder}
-use Rattle.rules.specs.Report.{digits, decimal, headerLine, packetOf, detectedLink, detection, backupHops, extraHops, detectionLine, detectionLines, lastLine, reportText}
+use Rattle.rules.specs.Forwarding.{nothing, link, up, packet, runUnder}
+use Rattle.rules.specs.Report.{digits, decimal, signed, headerLine, packetOf, detectedLink, detection, backupHops, plainHops, extraHops, detectionLine, detectionLines, lastLine, reportText}
 use Rattle.rules.specs.Sets.{AcceptedSet}
 use Rattle.rules.proofs.Ground.Choices.{if-yes, if-no}
+use Rattle.rules.proofs.Ground.Integers.{by-larger}
 use Rattle.rules.proofs.Distance.NextHops.{least-next-hops}
 use Rattle.rules.proofs.Forwarding.Runs.{Within, advance, starts, always-bounded}
 use Rattle.rules.proofs.Report.Lines.{lines-are-runs}
@@ -65,6 +68,13 @@ decimal-longest x h = go (ltb x 100) refl
     go true e = decimal-long x 3 (ltb-true x 100 e) (omega arith)
     go false e = omega (arith, ap length (decimal-three x (ltb-false x 100 e) h))
 
+-- with a minus sign, where it is needed
+pub signed-long : (a b : ℕ) → a < 100 → b < 100 → length (signed (pos a -ℤ pos b)) ≤ 3
+unfolding signed
+signed-long a b la lb =
+    by-larger (λ (z : ℤ). length (signed z) ≤ 3) a b (λ l. omega (arith, decimal-long (b - a - 1 + 1) 2 (omega arith) (omega arith)))
+    (λ l. decimal-long (a - b) 3 (omega arith) (omega arith))
+
 -- ---- lists one after the other, each of at most so many bytes, and one of them empty
 
 module _ (f : ℕ → List ℕ) (w : ℕ) where
@@ -96,7 +106,7 @@ pub record Small (S : Set) (u t : ℕ) : Type 0 where
   pub topology : packetOf (detection S u t) .topology < 100
   pub next : packetOf (detection S u t) .place < 100
   pub backup : backupHops S u t < 100
-  pub extra : extraHops S u t < 100
+  pub plain : plainHops S u t < 100
 
 module _ (S : Set) (A : AcceptedSet S) where
   -- the packet after the detecting step is within its ranges
@@ -109,12 +119,13 @@ module _ (S : Set) (A : AcceptedSet S) where
       (advance S A on (packet u t 0) (starts S A on u t lu lt) _ _ (L .moved) .within)
 
   pub small : (u t : ℕ) → u < S .net .n → t < S .net .n → (u ≡ t → ⊥) → Small S u t
-  unfolding backupHops extraHops runUnder mostHops
+  unfolding backupHops plainHops runUnder mostHops
   small u t lu lt ne =
       let n = A .rules .limits .nodes .1 in
       let k = A .rules .limits .topologies .0 in
       let W = after-detection u t lu lt ne in
       let few = always-bounded S A (up S (link (detectedLink S u t))) u t lu lt .few in
+      let free = always-bounded S A (up S nothing) u t lu lt .few in
       record {
         node = omega arith;
         end = omega arith;
@@ -122,12 +133,12 @@ module _ (S : Set) (A : AcceptedSet S) where
         topology = omega (arith, W .known);
         next = omega (arith, W .node);
         backup = omega arith;
-        extra = omega arith;
+        plain = omega arith;
       }
 
-  -- seven numbers of at most two digits, a letter, seven spaces and a newline
-  pub line-few : (u t : ℕ) → u < S .net .n → t < S .net .n → (u ≡ t → ⊥) → length (detectionLine S u t) ≤ 23
-  unfolding detectionLine
+  -- seven numbers of at most two digits, a minus sign, a letter, seven spaces and a newline
+  pub line-few : (u t : ℕ) → u < S .net .n → t < S .net .n → (u ≡ t → ⊥) → length (detectionLine S u t) ≤ reportLine
+  unfolding detectionLine extraHops
   line-few u t lu lt ne =
       let m = small u t lu lt ne in
       simp length-append
@@ -139,7 +150,7 @@ module _ (S : Set) (A : AcceptedSet S) where
         decimal-long (packetOf (detection S u t) .topology) 2 (m .topology) (omega arith),
         decimal-long (packetOf (detection S u t) .place) 2 (m .next) (omega arith),
         decimal-long (backupHops S u t) 2 (m .backup) (omega arith),
-        decimal-long (extraHops S u t) 2 (m .extra) (omega arith),
+        signed-long (backupHops S u t) (plainHops S u t) (m .backup) (m .plain),
       ))
 
   -- ---- the whole text
@@ -148,25 +159,25 @@ module _ (S : Set) (A : AcceptedSet S) where
   lineFor : ℕ → ℕ → List ℕ
   lineFor u t = if eqb u t then [] else detectionLine S u t
 
-  line-for-few : (u t : ℕ) → u < S .net .n → t < S .net .n → length (lineFor u t) ≤ 23
+  line-for-few : (u t : ℕ) → u < S .net .n → t < S .net .n → length (lineFor u t) ≤ reportLine
   unfolding lineFor
   line-for-few u t lu lt = go (eqb u t) refl
     where
-      go : (b : Bool) → eqb u t ≡ b → length (if eqb u t then [] else detectionLine S u t) ≤ 23
+      go : (b : Bool) → eqb u t ≡ b → length (if eqb u t then [] else detectionLine S u t) ≤ reportLine
       go true e = omega (arith, ap length (if-yes (eqb u t) [] (detectionLine S u t) e))
       go false e = omega (arith, ap length (if-no (eqb u t) [] (detectionLine S u t) e), line-few u t lu lt (eqb-false u t e))
 
   -- a node's lines: one for each other destination
-  node-few : (u : ℕ) → u < S .net .n → length (flat (lineFor u) (S .net .n)) ≤ (S .net .n - 1) * 23
+  node-few : (u : ℕ) → u < S .net .n → length (flat (lineFor u) (S .net .n)) ≤ (S .net .n - 1) * reportLine
   unfolding lineFor
   node-few u lu =
       let e : length (lineFor u u) ≡ 0 = ap length (if-yes (eqb u u) [] (detectionLine S u u) (eq-eqb u u refl)) in
-      omega (arith, flat-fewer (lineFor u) 23 (S .net .n) u (λ t lt. line-for-few u t lu lt) lu e)
+      omega (arith, flat-fewer (lineFor u) reportLine (S .net .n) u (λ t lt. line-for-few u t lu lt) lu e)
 
-  lines-few : length (detectionLines S) ≤ S .net .n * (S .net .n - 1) * 23
+  lines-few : length (detectionLines S) ≤ S .net .n * (S .net .n - 1) * reportLine
   unfolding detectionLines lineFor
   lines-few =
-      omega (arith, flat-few (λ u. flat (lineFor u) (S .net .n)) ((S .net .n - 1) * 23) (S .net .n) node-few, mul-assoc (S .net .n) (S .net .n - 1) 23)
+      omega (arith, flat-few (λ u. flat (lineFor u) (S .net .n)) ((S .net .n - 1) * reportLine) (S .net .n) node-few, mul-assoc (S .net .n) (S .net .n - 1) reportLine)
 
   -- how many detections there are at most
   pub detections-few : S .net .n * (S .net .n - 1) ≤ 992
@@ -174,7 +185,7 @@ module _ (S : Set) (A : AcceptedSet S) where
       let n = A .rules .limits .nodes .1 in
       mul-le-mul {n₁ = S .net .n} {m₁ = S .net .n - 1} {n₂ = 32} {m₂ = 31} n (omega arith)
 
-  last-few : length (lastLine S) ≤ 15
+  last-few : length (lastLine S) ≤ reportLast
   unfolding lastLine
   last-few = simp length-append (omega (arith, decimal-longest (S .net .n * (S .net .n - 1)) (omega (arith, detections-few))))
 
@@ -183,6 +194,6 @@ module _ (S : Set) (A : AcceptedSet S) where
   report-fits = simp length-append (omega (arith, lines-few, last-few))
 
   -- the longest report
-  pub report-longest : length (reportText S) ≤ 22875
+  pub report-longest : length (reportText S) ≤ reportRoom largest
   unfolding reportRoom
-  report-longest = omega (arith, report-fits, mul-le-mul-right {m = S .net .n * (S .net .n - 1)} {n = 992} 23 detections-few)
+  report-longest = omega (arith, report-fits, mul-le-mul-right {m = S .net .n * (S .net .n - 1)} {n = 992} reportLine detections-few)

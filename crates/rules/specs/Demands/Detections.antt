@@ -1,10 +1,14 @@
--- Demand 3, of the entry `report`: what it accepts, what it then answers and leaves, and that its lines cover every detection.
+-- Demand 3, of the entry `report`: what it accepts, what it then answers and leaves, and that its lines cover every detection. Then 02's request a: the extra hops
+-- of its lines.
 use mathlib.Core.Path.{_≡_}
 use mathlib.Core.Logic.{_⊎_}
-use mathlib.Core.List.{List, _∷_}
+use mathlib.Core.List.{List, _∷_, _++_}
 use Prim.Native.Nat.{ℕ, suc, _-_, _*_, _/_, _%_, _≤_, _<_}
 use lib.Dec.{ltb}
+use lib.IntN.{pos, negℤ, _+ℤ_}
 use lib.ListN.{length}
+use lib.Signed.{_≤ℤ_, _<ℤ_}
+use Rattle.rules.specs.declared.Kind.the-variants as change
 use Rattle.rules.specs.declared.Step.the-variants.{Moved}
 use Rattle.rules.specs.declared.LengthAnswer.{LengthAnswer}
 use Rattle.rules.specs.declared.LengthAnswer.the-variants as long
@@ -12,7 +16,7 @@ use Rattle.rules.specs.Basics.{if_then_else_, flat}
 use Rattle.rules.specs.Limits.{longest}
 use Rattle.rules.specs.File.{Set}
 use Rattle.rules.specs.Forwarding.{link, packet, Run, runUnder}
-use Rattle.rules.specs.Report.{detectedLink, detection, detectionLine, detectionLines, reportText}
+use Rattle.rules.specs.Report.{signed, newline, kindOf, detectedLink, detection, backupHops, plainHops, extraHops, detectionLine, detectionLines, reportText}
 use Rattle.rules.specs.Sets.{at, AcceptedSet, AcceptedFile}
 use Rattle.rules.specs.Demands.Form.{Front}
 
@@ -84,3 +88,20 @@ pub record Coverage (S : Set) : Type 0 where
 -- the report of every accepted set covers every detection
 abbrev pub Covered : Type 0
 Covered = (S : Set) → AcceptedSet S → Coverage S
+
+-- 02, a: the extra hops that the line of node u for destination t ends in
+pub record ExtraIs (S : Set) (u t : ℕ) : Type 0 where
+  -- the line's last field, signed
+  pub field : (fields : List ℕ) × (detectionLine S u t ≡ fields ++ (signed (extraHops S u t) ++ newline))
+  -- with the hops in topology 0 they make the backup hops
+  pub sum : extraHops S u t +ℤ pos (plainHops S u t) ≡ pos (backupHops S u t)
+  -- they lie between -(n - 2) and n - 2
+  pub least : negℤ (pos (S .net .n - 2)) ≤ℤ extraHops S u t
+  pub most : extraHops S u t ≤ℤ pos (S .net .n - 2)
+  -- and are above zero in every S and D line
+  pub above-in-s : kindOf (detection S u t) ≡ change.S → pos 0 <ℤ extraHops S u t
+  pub above-in-d : kindOf (detection S u t) ≡ change.D → pos 0 <ℤ extraHops S u t
+
+-- so are those of every line of an accepted set's report
+abbrev pub ExtrasAre : Type 0
+ExtrasAre = (S : Set) → AcceptedSet S → (u t : ℕ) → u < S .net .n → t < S .net .n → (u ≡ t → ⊥) → ExtraIs S u t
