@@ -1,1 +1,3 @@
+-- The hops of a detection counted along one topology, and what the code sees.
+pub mod Walks
 pub mod Seens

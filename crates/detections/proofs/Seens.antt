@@ -1,35 +1,38 @@
--- What the code looks up and runs by the file's own tables is what the rules say of its set.
-use mathlib.Core.Path.{_≡_, sym, ap, ap₂, subst, _∙_}
-use mathlib.Core.Bool.{Bool}
+-- What the code looks up and counts by the file's own tables is what the rules say of its set.
+use mathlib.Core.Path.{_≡_, refl, sym, ap, subst, _∙_}
+use mathlib.Core.Bool.{Bool, true, false}
 use mathlib.Core.List.{List}
 use Prim.Native.Nat.{ℕ, zero, suc, _+_, _-_, _≤_, _<_}
+use native.Mathlib.Numerals.{add-one}
 use native.Mathlib.Omega.{arith}
+use lib.Dec.{eqb}
 use lib.ListN.{getD}
+use borrow.Author.Tests.{eq-eqb, ne-eqb, eqb-false}
 use Rattle.rules.specs.declared.Network.{Network}
 use Rattle.rules.specs.declared.Packet.{Packet}
 use Rattle.rules.specs.declared.Failure.{Failure}
-use Rattle.rules.specs.declared.Failure.the-variants.{Nothing, Link}
+use Rattle.rules.specs.declared.Failure.the-variants.{Node}
 use Rattle.rules.specs.declared.Kind.{Kind}
 use Rattle.rules.specs.declared.Kind.the-variants as change
 use Rattle.rules.specs.declared.Step.{Step}
 use Rattle.rules.specs.declared.Step.the-variants.{Delivered, Moved, Dropped}
-use Rattle.rules.specs.declared.Journey.{Journey}
-use Rattle.rules.specs.declared.Outcome.the-variants as ended
+use Rattle.rules.specs.Basics.{if_then_else_}
 use Rattle.rules.specs.Limits.{mostHops}
 use Rattle.rules.specs.File.{Set, setOf}
-use Rattle.rules.specs.Isolation.{linkBetween}
 use Rattle.rules.specs.Distance.{nextHop}
-use Rattle.rules.specs.Forwarding.{link, faultOf, up, Tables, tablesOf, entryPlace, lentTables, packet, step, hops, stop, onward, afterStep, run, runUnder}
-use Rattle.rules.specs.Report.{packetOf, kindOf, detectedLink, detection, backupHops, plainHops, extraHops}
+use Rattle.rules.specs.Forwarding.{nodes, faultOf, up, tablesOf, entryPlace, lentTables, packet, step}
+use Rattle.rules.specs.Report.{packetOf, kindOf, detection, backupHops, plainHops}
+use Rattle.rules.proofs.Ground.Choices.{if-yes, if-no}
 use Rattle.rules.proofs.File.SetOfBytes.{net-held}
 use Rattle.rules.proofs.File.Checked.{checked-file, checked-set}
+use Rattle.rules.proofs.Distance.NextHops.{least-next-hops}
 use Rattle.rules.proofs.Forwarding.Runs.{starts}
-use Rattle.rules.proofs.Forwarding.LentTables.{Agree, lent-agree, step-same, run-same}
+use Rattle.rules.proofs.Forwarding.LentTables.{Agree, lent-agree, step-same}
+use Rattle.rules.proofs.Report.TextLength.{after-detection}
 use Rattle.linkstate.specs.Links.{Judged, on}
 use Rattle.onehop.specs.Hop.{tablesAt, stepAt}
-use Rattle.travel.specs.Trip.{runAt, journeyOf, RunsAs}
-use Rattle.travel.proofs.Trips.{run-delivered, run-dropped, run-moved}
-use Rattle.detections.specs.Detection.{Ready, Pair, Counted, seenBy}
+use Rattle.detections.specs.Detection.{Ready, Pair, walkHops, Walked, seenBy}
+use Rattle.detections.proofs.Walks.{along, plain-along, backup-of, detection-by-node}
 
 -- ---- the parts of a step
 
@@ -57,34 +60,45 @@ pub packet-dropped : (s : Step) (p : Packet) → s ≡ Dropped p → p ≡ packe
 unfolding packetOf
 packet-dropped s p e = rw e
 
--- ---- the next hop in topology 0
+-- ---- the next hops of one topology, counted
 
-pub first-table : (tables : List ℕ) (net : Network) (u t place x : ℕ) → place ≡ entryPlace net 0 u t → x ≡ getD tables place 0 → x ≡ getD tables (entryPlace net 0 u t) 0
-first-table tables net u t place x e d = d ∙ ap (λ (i : ℕ). getD tables i 0) e
+-- so many hops, h, of at most so many are behind, and u is where they led
+pub record Walking (tables : List ℕ) (net : Network) (i t most from h u : ℕ) : Type 0 where
+  pub few : h ≤ most
+  pub rest : walkHops tables net i t most from ≡ h + walkHops tables net i t (most - h) u
 
--- ---- the hops of a run
+module _ (tables : List ℕ) (net : Network) (i t : ℕ) where
+  walk-there : (most u : ℕ) → u ≡ t → walkHops tables net i t most u ≡ 0
+  unfolding walkHops
+  walk-there zero u e = refl
+  walk-there (suc most) u e = if-yes (eqb u t) _ _ (eq-eqb u t e)
 
--- no more than are allowed
-hops-most : (S : Set) (tables : Tables) (on : ℕ → ℕ → Bool) (most : ℕ) (p : Packet) → hops (run S tables on most p) ≤ most
-unfolding hops run afterStep stop onward
-hops-most S tables on zero p = go (step S tables on p)
-  where
-    go : (st : Step) → hops (afterStep st (λ q kind. stop p ended.UnderWay)) ≤ 0
-    go (Delivered q) = omega arith
-    go (Dropped q) = omega arith
-    go (Moved q kind) = omega arith
-hops-most S tables on (suc most) p = go (step S tables on p) (hops-most S tables on most)
-  where
-    go : (st : Step) → ((q : Packet) → hops (run S tables on most q) ≤ most) → hops (afterStep st (λ q kind. onward (q .place) kind (run S tables on most q))) ≤ suc most
-    go (Delivered q) fewer = omega arith
-    go (Dropped q) fewer = omega arith
-    go (Moved q kind) fewer = omega (arith, fewer q)
+  walk-on : (most u : ℕ) → (u ≡ t → ⊥) → walkHops tables net i t (suc most) u ≡ suc (walkHops tables net i t most (getD tables (entryPlace net i u t) 0))
+  unfolding walkHops
+  walk-on most u e = if-no (eqb u t) _ _ (ne-eqb u t e)
 
-pub run-counted : (s tables : List ℕ) (f : Failure) (p : Packet) (most : ℕ) (old new : List ℕ) (j : Journey) → RunsAs s tables f p most old j new → Counted s tables f p most (j .hops)
-unfolding runAt journeyOf
-run-counted s tables f p most old new j W =
-    let e : j .hops ≡ hops (runAt s tables f most p) = ap (λ (x : Journey). x .hops) (W .answer) in
-    record { is = e; few = rw e (hops-most (setOf s) (tablesAt s tables) (on s f) most p) }
+  walk-none : (u : ℕ) → walkHops tables net i t 0 u ≡ 0
+  unfolding walkHops
+  walk-none u = refl
+
+  pub walk-begins : (most from : ℕ) → Walking tables net i t most from 0 from
+  walk-begins most from =
+      let all : most - 0 ≡ most = omega arith in
+      record { few = omega arith; rest = omega (arith, ap (λ (x : ℕ). walkHops tables net i t x from) all) }
+
+  pub walk-goes-on : (most from h u v : ℕ) → v ≡ getD tables (entryPlace net i u t) 0 → Walking tables net i t most from h u → (u ≡ t → ⊥) → h < most → Walking tables net i t most from (h + 1) v
+  walk-goes-on most from h u v e W ne l =
+      let one : most - h ≡ suc (most - (h + 1)) = omega arith in
+      let on = ap (λ (x : ℕ). walkHops tables net i t x u) one ∙ walk-on (most - (h + 1)) u ne ∙ ap (λ (x : ℕ). suc (walkHops tables net i t (most - (h + 1)) x)) (sym e) in
+      record { few = omega arith; rest = omega (arith, W .rest) }
+
+  pub walk-arrives : (most from h u : ℕ) → Walking tables net i t most from h u → u ≡ t → Walked tables net i from t most h
+  walk-arrives most from h u W e = record { is = omega (arith, W .rest, walk-there (most - h) u e); few = W .few }
+
+  pub walk-stops : (most from h u : ℕ) → Walking tables net i t most from h u → most ≤ h → Walked tables net i from t most h
+  walk-stops most from h u W l =
+      let z : most - h ≡ 0 = omega arith in
+      record { is = omega (arith, W .rest, ap (λ (x : ℕ). walkHops tables net i t x u) z, walk-none u); few = W .few }
 
 -- ---- by the file's own tables
 
@@ -115,53 +129,56 @@ module _ (s tables : List ℕ) (net : Network) (R : Ready s net tables) where
       let A = checked-set s (R .accepted) in
       step-same (setOf s) A (on s f) (tablesAt s tables) agree (packet u t 0) (starts (setOf s) A (on s f) u t (in-set u (P .node)) (in-set t (P .end)))
 
-  same-run : (f : Failure) (u t : ℕ) → Pair net u t → runAt s tables f (mostHops net) (packet u t 0) ≡ runUnder (setOf s) (faultOf f) u t
-  unfolding runUnder runAt
-  same-run f u t P =
-      let A = checked-set s (R .accepted) in
-      ap (λ (h : Network). run (setOf s) (tablesAt s tables) (on s f) (mostHops h) (packet u t 0)) same-net
-      ∙ run-same (setOf s) A (on s f) (tablesAt s tables) agree (mostHops (setOf s .net)) (packet u t 0) (starts (setOf s) A (on s f) u t (in-set u (P .node)) (in-set t (P .end)))
+  -- the tables' next hops are those of the rules, all the way
+  same-walk : (i t most u : ℕ) → i ≤ setOf s .net .k → t < setOf s .net .n → u < setOf s .net .n → walkHops tables net i t most u ≡ along (setOf s) i t most u
+  unfolding walkHops along lentTables
+  same-walk i t zero u li lt lu = refl
+  same-walk i t (suc most) u li lt lu = go (eqb u t) refl (same-walk i t most v li lt)
+    where
+      S : Set
+      S = setOf s
 
-  pub hops-whole : (f : Failure) (u t most r : ℕ) → Pair net u t → most ≡ mostHops net → Counted s tables f (packet u t 0) most r → r ≡ hops (runUnder (setOf s) (faultOf f) u t)
-  hops-whole f u t most r P e C = C .is ∙ ap (λ (m : ℕ). hops (runAt s tables f m (packet u t 0))) e ∙ ap hops (same-run f u t P)
+      v : ℕ
+      v = nextHop S i u t
 
-  -- by the run's first step
-  module _ (f : Failure) (u t : ℕ) (st : Step) (P : Pair net u t) (d : st ≡ stepAt s tables f (packet u t 0)) where
-    pub hops-delivered : (q : Packet) → st ≡ Delivered q → 0 ≡ hops (runUnder (setOf s) (faultOf f) u t)
-    unfolding hops stop
-    hops-delivered q e = sym (ap hops (sym (same-run f u t P) ∙ run-delivered s tables f (mostHops net) (packet u t 0) q (sym d ∙ e)))
+      there : getD tables (entryPlace net i u t) 0 ≡ v
+      there = ap (λ (h : Network). getD tables (entryPlace h i u t) 0) (R .header) ∙ agree .next i u t li lu lt
 
-    pub hops-dropped : (q : Packet) → st ≡ Dropped q → 0 ≡ hops (runUnder (setOf s) (faultOf f) u t)
-    unfolding hops stop
-    hops-dropped q e = sym (ap hops (sym (same-run f u t P) ∙ run-dropped s tables f (mostHops net) (packet u t 0) q (sym d ∙ e)))
+      go : (b : Bool) → eqb u t ≡ b → (v < S .net .n → walkHops tables net i t most v ≡ along S i t most v)
+          → (if eqb u t then 0 else suc (walkHops tables net i t most (getD tables (entryPlace net i u t) 0))) ≡ (if eqb u t then 0 else suc (along S i t most v))
+      go true e rest = if-yes (eqb u t) _ _ e ∙ sym (if-yes (eqb u t) _ _ e)
+      go false e rest =
+          let low = least-next-hops S (checked-set s (R .accepted)) i u t li lu lt (eqb-false u t e) .node in
+          ap (λ (x : ℕ). if eqb u t then 0 else suc (walkHops tables net i t most x)) there ∙ ap (λ (x : ℕ). if eqb u t then 0 else suc x) (rest low)
 
-    pub hops-moved : (q : Packet) (k : Kind) (most r : ℕ) → st ≡ Moved q k → most ≡ mostHops net → Counted s tables f q (most - 1) r → r + 1 ≡ hops (runUnder (setOf s) (faultOf f) u t)
-    unfolding hops onward mostHops
-    hops-moved q k most r e m C =
-        let one : mostHops net ≡ suc (most - 1) = omega (arith, R .least) in
-        let w : runUnder (setOf s) (faultOf f) u t ≡ onward (q .place) k (runAt s tables f (most - 1) q) =
-        sym (same-run f u t P) ∙ ap (λ (x : ℕ). runAt s tables f x (packet u t 0)) one ∙ run-moved s tables f (most - 1) (packet u t 0) q k (sym d ∙ e)
-        in
-        omega (arith, C .is, ap hops w)
-
-  pub seen-of : (u t via l back plain extra : ℕ) (st : Step) (p : Packet) (kind : Kind) → Pair net u t
-      → via ≡ getD tables (entryPlace net 0 u t) 0 → l ≡ linkBetween (setOf s) u via → st ≡ stepAt s tables (Link l) (packet u t 0)
-      → p ≡ packetOf st → kind ≡ kindOf st → back ≡ hops (runUnder (setOf s) (faultOf (Link l)) u t) → plain ≡ hops (runUnder (setOf s) (faultOf Nothing) u t)
-      → extra ≡ back - plain
-      → record { via = via; kind = kind; topology = p .topology; next = p .place; hops = back; extra = extra } ≡ seenBy (setOf s) u t
-  unfolding seenBy faultOf detection backupHops plainHops extraHops detectedLink
-  seen-of u t via l back plain extra st p kind P e0 e1 e2 e3 e4 e5 e6 e7 =
+  -- what the node sees, from the step that it takes where its next hop is down and the next hops that are counted
+  pub seen-of : (u t via most back plain : ℕ) (st : Step) (p : Packet) (kind : Kind) → Pair net u t
+      → via ≡ getD tables (entryPlace net 0 u t) 0 → st ≡ stepAt s tables (Node via) (packet u t 0) → p ≡ packetOf st → kind ≡ kindOf st → most ≡ mostHops net
+      → Walked tables net (p .topology) (p .place) t (most - 1) back → Walked tables net 0 u t most plain
+      → record { via = via; kind = kind; topology = p .topology; next = p .place; hops = back + 1; plain = plain } ≡ seenBy (setOf s) u t
+  unfolding seenBy faultOf
+  seen-of u t via most back plain st p kind P e0 e1 e2 e3 e4 B F =
       let S = setOf s in
+      let A = checked-set s (R .accepted) in
+      let lu = in-set u (P .node) in
+      let lt = in-set t (P .end) in
       let v : via ≡ nextHop S 0 u t = e0 ∙ same-next u t P in
-      let d : l ≡ detectedLink S u t = e1 ∙ ap (linkBetween S u) v in
-      let x : st ≡ detection S u t = e2 ∙ same-step (Link l) u t P ∙ ap (λ (y : ℕ). step S (tablesOf S) (up S (link y)) (packet u t 0)) d in
-      let q : p ≡ packetOf (detection S u t) = e3 ∙ ap packetOf x in
-      let k : kind ≡ kindOf (detection S u t) = e4 ∙ ap kindOf x in
-      let b : back ≡ backupHops S u t = e5 ∙ ap (λ (y : ℕ). hops (runUnder S (link y) u t)) d in
-      let a : extra ≡ extraHops S u t = e7 ∙ ap₂ (λ (y z : ℕ). y - z) b e6 in
-      λ i. record { via = v i; kind = k i; topology = q i .topology; next = q i .place; hops = b i; extra = a i }
+      let x : st ≡ detection S u t = e1 ∙ same-step (Node via) u t P ∙ ap (λ (y : ℕ). step S (tablesOf S) (up S (nodes (eqb y))) (packet u t 0)) v ∙ sym (detection-by-node S A u t lu lt (P .apart)) in
+      let q : p ≡ packetOf (detection S u t) = e2 ∙ ap packetOf x in
+      let k : kind ≡ kindOf (detection S u t) = e3 ∙ ap kindOf x in
+      let m : most ≡ mostHops (S .net) = e4 ∙ ap mostHops same-net in
+      let W = after-detection S A u t lu lt (P .apart) in
+      let b : back + 1 ≡ backupHops S u t =
+      add-one back
+      ∙ ap suc (B .is ∙ ap (λ (y : Packet). walkHops tables net (y .topology) t (most - 1) (y .place)) q
+      ∙ ap (λ (y : ℕ). walkHops tables net (packetOf (detection S u t) .topology) t (y - 1) (packetOf (detection S u t) .place)) m
+      ∙ same-walk (packetOf (detection S u t) .topology) t (mostHops (S .net) - 1) (packetOf (detection S u t) .place) (W .known) lt (W .node))
+      ∙ sym (backup-of S A u t lu lt (P .apart))
+      in
+      let f : plain ≡ plainHops S u t =
+      F .is ∙ ap (λ (y : ℕ). walkHops tables net 0 t y u) m ∙ same-walk 0 t (mostHops (S .net)) u (omega arith) lt lu ∙ sym (plain-along S A u t lu lt (P .apart))
+      in
+      λ i. record { via = v i; kind = k i; topology = q i .topology; next = q i .place; hops = b i; plain = f i }
 
-pub over-none : (x y : ℕ) → x < y → 0 ≡ x - y
-over-none x y h = omega arith
-
-pub ruleset seens = (ready-judged, kind-delivered, kind-moved, kind-dropped, packet-delivered, packet-moved, packet-dropped, first-table, run-counted, hops-whole, hops-delivered, hops-dropped, hops-moved, seen-of, over-none)
+pub ruleset walks = (walk-begins, walk-goes-on, walk-arrives, walk-stops)
+pub ruleset seens = (ready-judged, kind-delivered, kind-moved, kind-dropped, packet-delivered, packet-moved, packet-dropped, seen-of)

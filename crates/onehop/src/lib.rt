@@ -36,8 +36,9 @@ pub fn home(file: &[u8], net: Network, v: u8) -> u8
     0
 }
 
-// The entry of table i for node u and node t.
-fn entry(tables: &[u8], net: Network, i: usize, u: u8, t: u8) -> u8
+// The entry of table i for node u and node t, and 0 past the end of the tables.
+// Rules out: the entry for node t and node u; the entry of the table after.
+pub fn entry(tables: &[u8], net: Network, i: usize, u: u8, t: u8) -> u8
     requires { ⌜ i < 65536 ⌝ }
     ensures { λ r. ⌜ r ≡ getD (now (tables .entry)) (entryPlace net i u t) 0 ⌝ }
 {

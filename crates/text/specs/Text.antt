@@ -23,6 +23,10 @@ field x = decimal x ++ space
 abbrev pub numberRoom : ℕ
 numberRoom = 20
 
+-- a number and the minus sign before it
+abbrev pub signedRoom : ℕ
+signedRoom = 1 + numberRoom
+
 -- a number and the space after it
 abbrev pub fieldRoom : ℕ
 fieldRoom = numberRoom + 1

@@ -1,4 +1,4 @@
-// Text at a cursor: bytes, numbers in decimal, labels and letters. Each function promises that its bytes stand from `at` on, as far
+// Text at a cursor: bytes, numbers in decimal, with a sign where they have one, labels and letters. Each function promises that its bytes stand from `at` on, as far
 // as the text reaches, and returns the place after them. A byte past the text's end is not stored, so no caller has to ask for room.
 use rules::Kind;
 use slices::byte;
@@ -6,10 +6,11 @@ use slices::store;
 ghost use mathlib.Core.Path.{_≡_};
 ghost use mathlib.Core.List.{[], _∷_, _++_};
 ghost use Prim.Native.Nat.{_+_, _≤_, _<_};
+ghost use lib.IntN.{natAbs};
 ghost use lib.ListN.{length};
 ghost use Rattle.rules.specs.Forwarding.{letter};
-ghost use Rattle.rules.specs.Report.{digits, decimal};
-ghost use Rattle.text.specs.Text.{Wrote, field, numberRoom, fieldRoom, labelRoom, labelledRoom};
+ghost use Rattle.rules.specs.Report.{digits, decimal, signed};
+ghost use Rattle.text.specs.Text.{Wrote, field, numberRoom, signedRoom, fieldRoom, labelRoom, labelledRoom};
 
 // One byte.
 // Rules out: the same place given back, not the one after; the last byte overwritten where its own place is past the end.
@@ -67,6 +68,31 @@ pub fn number(text: &mut [u8], at: usize, x: usize) -> usize
     ensures { λ r. ⌜ Wrote (now (text .entry)) at (decimal x) numberRoom r (now (text .exit)) ⌝ }
 {
     digits(text, at, x, 19)
+}
+
+// How far a number is from zero.
+fn magnitude(x: i32) -> usize
+    ensures { λ r. ⌜ r ≡ natAbs x ⌝ }
+{
+    let wide = x as i64;
+    if wide < 0 {
+        return (0 - wide) as usize;
+    }
+    wide as usize
+}
+
+// A number in decimal, a minus sign before it where it is below zero.
+// Rules out: -1 written as 1 `sign_lost`; a minus sign before 0.
+pub fn signed(text: &mut [u8], at: usize, x: i32) -> usize
+    requires { ⌜ at < 8388608 ⌝ }
+    ensures { λ r. ⌜ Wrote (now (text .entry)) at (signed x) signedRoom r (now (text .exit)) ⌝ }
+{
+    let digits = magnitude(x);
+    if x < 0 {
+        let first = put(text, at, b'-');
+        return number(text, first, digits);
+    }
+    number(text, at, digits)
 }
 
 // A number after its label.

@@ -1,13 +1,11 @@
+use Rattle.rules.specs.Limits.{mostHops}
 use borrow.Author.Needs.{needs}
 use Rattle.detections.proofs.Seens.{seens}
 use Rattle.detections.proofs.detect.Statement.{statement}
 use Rattle.detections.proofs.detect.Tie as tie
 
-next-hop-requires : tie.Need-next-hop-requires
-next-hop-requires c κs = search needs
-
-link-between-requires : tie.Need-link-between-requires
-link-between-requires c κs = search needs
+entry-requires : tie.Need-entry-requires
+entry-requires c κs = search needs
 
 take-requires : tie.Need-take-requires
 take-requires c κs = search seens
@@ -18,14 +16,21 @@ packet-of-requires c κs = search needs
 kind-of-requires : tie.Need-kind-of-requires
 kind-of-requires c κs = search needs
 
-hops-after-requires : tie.Need-hops-after-requires
-hops-after-requires c κs = search needs
+most-hops-requires : tie.Need-most-hops-requires
+most-hops-requires c κs = search needs
 
-plain-hops-requires : tie.Need-plain-hops-requires
-plain-hops-requires c κs = search needs
+sub-walk : tie.Need-sub-walk
+unfolding mostHops
+sub-walk c = search needs
 
-over-requires : tie.Need-over-requires
-over-requires c κs = search needs
+walk-requires : tie.Need-walk-requires
+walk-requires c κs = search needs
+
+add-hops : tie.Need-add-hops
+add-hops c = search needs
+
+walk-requires-2 : tie.Need-walk-requires-2
+walk-requires-2 c κs = search needs
 
 returns : tie.Need-returns
 returns c = search seens
@@ -34,12 +39,13 @@ pub detect-spec : {M : Type 1} → statement M
 detect-spec =
     tie.close
     (tie.spec
-    next-hop-requires
-    link-between-requires
+    entry-requires
     take-requires
     packet-of-requires
     kind-of-requires
-    hops-after-requires
-    plain-hops-requires
-    over-requires
+    most-hops-requires
+    sub-walk
+    walk-requires
+    add-hops
+    walk-requires-2
     returns)

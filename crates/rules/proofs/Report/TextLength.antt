@@ -110,7 +110,7 @@ pub record Small (S : Set) (u t : ℕ) : Type 0 where
 
 module _ (S : Set) (A : AcceptedSet S) where
   -- the packet after the detecting step is within its ranges
-  after-detection : (u t : ℕ) → u < S .net .n → t < S .net .n → (u ≡ t → ⊥) → Within S (packetOf (detection S u t))
+  pub after-detection : (u t : ℕ) → u < S .net .n → t < S .net .n → (u ≡ t → ⊥) → Within S (packetOf (detection S u t))
   unfolding packetOf detection
   after-detection u t lu lt ne =
       let L = lines-are-runs S A u t lu lt ne in
