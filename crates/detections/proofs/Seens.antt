@@ -152,31 +152,31 @@ module _ (s tables : List ℕ) (net : Network) (R : Ready s net tables) where
           ap (λ (x : ℕ). if eqb u t then 0 else suc (walkHops tables net i t most x)) there ∙ ap (λ (x : ℕ). if eqb u t then 0 else suc x) (rest low)
 
   -- what the node sees, from the step that it takes where its next hop is down and the next hops that are counted
-  pub seen-of : (u t via most back plain : ℕ) (st : Step) (p : Packet) (kind : Kind) → Pair net u t
+  pub seen-of : (u t via most back plain : ℕ) (st : Step) (p : Packet) (kind : Kind) → Pair net u t → (u ≡ t → ⊥)
       → via ≡ getD tables (entryPlace net 0 u t) 0 → st ≡ stepAt s tables (Node via) (packet u t 0) → p ≡ packetOf st → kind ≡ kindOf st → most ≡ mostHops net
       → Walked tables net (p .topology) (p .place) t (most - 1) back → Walked tables net 0 u t most plain
       → record { via = via; kind = kind; topology = p .topology; next = p .place; hops = back + 1; plain = plain } ≡ seenBy (setOf s) u t
   unfolding seenBy faultOf
-  seen-of u t via most back plain st p kind P e0 e1 e2 e3 e4 B F =
+  seen-of u t via most back plain st p kind P ne e0 e1 e2 e3 e4 B F =
       let S = setOf s in
       let A = checked-set s (R .accepted) in
       let lu = in-set u (P .node) in
       let lt = in-set t (P .end) in
       let v : via ≡ nextHop S 0 u t = e0 ∙ same-next u t P in
-      let x : st ≡ detection S u t = e1 ∙ same-step (Node via) u t P ∙ ap (λ (y : ℕ). step S (tablesOf S) (up S (nodes (eqb y))) (packet u t 0)) v ∙ sym (detection-by-node S A u t lu lt (P .apart)) in
+      let x : st ≡ detection S u t = e1 ∙ same-step (Node via) u t P ∙ ap (λ (y : ℕ). step S (tablesOf S) (up S (nodes (eqb y))) (packet u t 0)) v ∙ sym (detection-by-node S A u t lu lt ne) in
       let q : p ≡ packetOf (detection S u t) = e2 ∙ ap packetOf x in
       let k : kind ≡ kindOf (detection S u t) = e3 ∙ ap kindOf x in
       let m : most ≡ mostHops (S .net) = e4 ∙ ap mostHops same-net in
-      let W = after-detection S A u t lu lt (P .apart) in
+      let W = after-detection S A u t lu lt ne in
       let b : back + 1 ≡ backupHops S u t =
       add-one back
       ∙ ap suc (B .is ∙ ap (λ (y : Packet). walkHops tables net (y .topology) t (most - 1) (y .place)) q
       ∙ ap (λ (y : ℕ). walkHops tables net (packetOf (detection S u t) .topology) t (y - 1) (packetOf (detection S u t) .place)) m
       ∙ same-walk (packetOf (detection S u t) .topology) t (mostHops (S .net) - 1) (packetOf (detection S u t) .place) (W .known) lt (W .node))
-      ∙ sym (backup-of S A u t lu lt (P .apart))
+      ∙ sym (backup-of S A u t lu lt ne)
       in
       let f : plain ≡ plainHops S u t =
-      F .is ∙ ap (λ (y : ℕ). walkHops tables net 0 t y u) m ∙ same-walk 0 t (mostHops (S .net)) u (omega arith) lt lu ∙ sym (plain-along S A u t lu lt (P .apart))
+      F .is ∙ ap (λ (y : ℕ). walkHops tables net 0 t y u) m ∙ same-walk 0 t (mostHops (S .net)) u (omega arith) lt lu ∙ sym (plain-along S A u t lu lt ne)
       in
       λ i. record { via = v i; kind = k i; topology = q i .topology; next = q i .place; hops = b i; plain = f i }
 

@@ -23,11 +23,10 @@ pub record Ready (s : List ℕ) (net : Network) (tables : List ℕ) : Type 0 whe
   pub least : 3 ≤ net .n
   pub most : net .n ≤ 32
 
--- a node and another destination of the file
+-- a node and a destination of the file
 pub record Pair (net : Network) (u t : ℕ) : Type 0 where
   pub node : u < net .n
   pub end : t < net .n
-  pub apart : u ≡ t → ⊥
 
 -- how many next hops of topology i lead from u to t by these tables, of at most so many
 unfoldable pub walkHops : List ℕ → Network → ℕ → ℕ → ℕ → ℕ → ℕ

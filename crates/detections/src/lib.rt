@@ -68,6 +68,7 @@ fn walk(tables: &[u8], net: Network, i: u8, from: u8, t: u8, most: u8) -> u8
 pub fn detect(file: &[u8], net: Network, tables: &[u8], u: u8, t: u8) -> Seen
     requires { ⌜ Ready (now file) net (now tables) ⌝ }
     requires { ⌜ Pair net u t ⌝ }
+    requires { ⌜ (u ≡ t → ⊥) ⌝ }
     ensures { λ r. ⌜ r ≡ seenBy (setOf (now (file .entry))) u t ⌝ }
 {
     let start = Packet {

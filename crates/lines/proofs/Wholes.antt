@@ -5,16 +5,17 @@ use Prim.Native.Nat.{ℕ, _+_, _-_, _*_, _≤_}
 use native.Mathlib.Numerals.{add-one}
 use native.Mathlib.Omega.{arith}
 use lib.Dec.{eqb}
+use lib.IntN.{pos, _-ℤ_}
 use borrow.Author.Tests.{eq-eqb, ne-eqb}
 use Rattle.rules.specs.declared.Network.{Network}
 use Rattle.rules.specs.declared.Kind.{Kind}
 use Rattle.rules.specs.Basics.{if_then_else_, flat}
 use Rattle.rules.specs.File.{Set, setOf}
 use Rattle.rules.specs.Forwarding.{letter}
-use Rattle.rules.specs.Report.{decimal, space, newline, headerLine, detectionLine, detectionLines, lastLine, reportText}
+use Rattle.rules.specs.Report.{decimal, signed, extraHops, space, newline, headerLine, detectionLine, detectionLines, lastLine, reportText}
 use Rattle.rules.proofs.Ground.Choices.{if-yes, if-no}
 use Rattle.detections.specs.declared.Seen.{Seen}
-use Rattle.text.specs.Text.{Wrote, field, numberRoom, fieldRoom, labelledRoom}
+use Rattle.text.specs.Text.{Wrote, field, signedRoom, fieldRoom, labelledRoom}
 use Rattle.detections.specs.Detection.{Ready, seenBy}
 use Rattle.lines.specs.Lines.{headOf, changeOf, tailOf, lineOf, lineFor, nodeLines, lastOf, headRoom, changeRoom, tailRoom, lineRoom, nodeRoom, linesRoom, headerRoom, lastRoom, textRoom}
 use Rattle.text.proofs.Texts.{wrote-none, wrote-then, wrote-as}
@@ -38,22 +39,23 @@ change-of old o₁ o₂ o₃ new at p q q′ r x topology next kind e a b c d =
     (wrote-then o₁ o₂ new p q r 1 (2 * fieldRoom) (1 + 2 * fieldRoom) space (field topology ++ field next) b
     (wrote-then o₂ o₃ new q q′ r fieldRoom fieldRoom (2 * fieldRoom) (field topology) (field next) c d (omega arith)) (omega arith)) (omega arith))
 
-pub tail-of : (old o₁ o₂ new : List ℕ) (at p q r hops extra : ℕ) → Wrote old at (field hops) fieldRoom p o₁ → Wrote o₁ p (decimal extra) numberRoom q o₂ → Wrote o₂ q (10 ∷ []) 1 r new
-    → Wrote old at (tailOf hops extra) tailRoom r new
+pub tail-of : (old o₁ o₂ new : List ℕ) (at p q r hops plain : ℕ) → Wrote old at (field hops) fieldRoom p o₁ → Wrote o₁ p (signed (pos hops -ℤ pos plain)) signedRoom q o₂ → Wrote o₂ q (10 ∷ []) 1 r new
+    → Wrote old at (tailOf hops plain) tailRoom r new
 unfolding tailOf
-tail-of old o₁ o₂ new at p q r hops extra a b c =
-    wrote-then old o₁ new at p r fieldRoom (numberRoom + 1) tailRoom (field hops) (decimal extra ++ newline) a (wrote-then o₁ o₂ new p q r numberRoom 1 (numberRoom + 1) (decimal extra) newline b c (omega arith)) (omega arith)
+tail-of old o₁ o₂ new at p q r hops plain a b c =
+    wrote-then old o₁ new at p r fieldRoom (signedRoom + 1) tailRoom (field hops) (signed (pos hops -ℤ pos plain) ++ newline) a
+    (wrote-then o₁ o₂ new p q r signedRoom 1 (signedRoom + 1) (signed (pos hops -ℤ pos plain)) newline b c (omega arith)) (omega arith)
 
 pub line-of : (old o₁ o₂ new : List ℕ) (at p q r u t : ℕ) (d : Seen) → Wrote old at (headOf u (d .via) t) headRoom p o₁ → Wrote o₁ p (changeOf (d .kind) (d .topology) (d .next)) changeRoom q o₂
-    → Wrote o₂ q (tailOf (d .hops) (d .extra)) tailRoom r new → Wrote old at (lineOf u t d) lineRoom r new
+    → Wrote o₂ q (tailOf (d .hops) (d .plain)) tailRoom r new → Wrote old at (lineOf u t d) lineRoom r new
 unfolding lineOf
 line-of old o₁ o₂ new at p q r u t d a b c =
-    wrote-then old o₁ new at p r headRoom (changeRoom + tailRoom) lineRoom (headOf u (d .via) t) (changeOf (d .kind) (d .topology) (d .next) ++ tailOf (d .hops) (d .extra)) a
-    (wrote-then o₁ o₂ new p q r changeRoom tailRoom (changeRoom + tailRoom) (changeOf (d .kind) (d .topology) (d .next)) (tailOf (d .hops) (d .extra)) b c (omega arith)) (omega arith)
+    wrote-then old o₁ new at p r headRoom (changeRoom + tailRoom) lineRoom (headOf u (d .via) t) (changeOf (d .kind) (d .topology) (d .next) ++ tailOf (d .hops) (d .plain)) a
+    (wrote-then o₁ o₂ new p q r changeRoom tailRoom (changeRoom + tailRoom) (changeOf (d .kind) (d .topology) (d .next)) (tailOf (d .hops) (d .plain)) b c (omega arith)) (omega arith)
 
 -- the parts make the published line
 line-same : (S : Set) (u t : ℕ) → lineOf u t (seenBy S u t) ≡ detectionLine S u t
-unfolding lineOf seenBy headOf changeOf tailOf field detectionLine
+unfolding lineOf seenBy headOf changeOf tailOf field detectionLine extraHops
 line-same S u t = simp append-assoc
 
 -- ---- the lines

@@ -2,13 +2,14 @@
 use mathlib.Core.List.{List, [], _∷_, _++_}
 use Prim.Native.Nat.{ℕ, _+_, _-_, _*_}
 use lib.Dec.{eqb}
+use lib.IntN.{pos, _-ℤ_}
 use Rattle.rules.specs.declared.Kind.{Kind}
 use Rattle.rules.specs.Basics.{if_then_else_, flat}
 use Rattle.rules.specs.Limits.{largest}
 use Rattle.rules.specs.File.{Set}
 use Rattle.rules.specs.Forwarding.{letter}
-use Rattle.rules.specs.Report.{decimal, space, newline, detectionLine}
-use Rattle.text.specs.Text.{field, numberRoom, fieldRoom, labelledRoom}
+use Rattle.rules.specs.Report.{decimal, signed, space, newline, detectionLine}
+use Rattle.text.specs.Text.{field, signedRoom, fieldRoom, labelledRoom}
 use Rattle.detections.specs.declared.Seen.{Seen}
 
 -- ---- a line in three parts
@@ -20,10 +21,10 @@ unfoldable pub changeOf : Kind → ℕ → ℕ → List ℕ
 changeOf kind topology next = letter kind ∷ (space ++ (field topology ++ field next))
 
 unfoldable pub tailOf : ℕ → ℕ → List ℕ
-tailOf hops extra = field hops ++ (decimal extra ++ newline)
+tailOf hops plain = field hops ++ (signed (pos hops -ℤ pos plain) ++ newline)
 
 unfoldable pub lineOf : ℕ → ℕ → Seen → List ℕ
-lineOf u t d = headOf u (d .via) t ++ (changeOf (d .kind) (d .topology) (d .next) ++ tailOf (d .hops) (d .extra))
+lineOf u t d = headOf u (d .via) t ++ (changeOf (d .kind) (d .topology) (d .next) ++ tailOf (d .hops) (d .plain))
 
 -- ---- the lines
 
@@ -41,7 +42,7 @@ lastOf n = 100 ∷ 101 ∷ 116 ∷ 101 ∷ 99 ∷ 116 ∷ 105 ∷ 111 ∷ 110 �
 
 -- ---- how many bytes are allowed for, at most
 
--- the three parts of a line: its first three fields; the letter, a space and two fields; a field, a number and the newline
+-- the three parts of a line: its first three fields; the letter, a space and two fields; a field, a number with its sign and the newline
 abbrev pub headRoom : ℕ
 headRoom = 3 * fieldRoom
 
@@ -49,7 +50,7 @@ abbrev pub changeRoom : ℕ
 changeRoom = 2 + 2 * fieldRoom
 
 abbrev pub tailRoom : ℕ
-tailRoom = fieldRoom + numberRoom + 1
+tailRoom = fieldRoom + signedRoom + 1
 
 -- a line
 abbrev pub lineRoom : ℕ

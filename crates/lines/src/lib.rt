@@ -1,5 +1,5 @@
 // The lines of the report, and its whole text: the header line, a line for each node and each other destination, the count of the
-// detections. `write` promises the text of 01's report on an accepted file, byte for byte as far as the room reaches, and its length.
+// detections. `write` promises the text of the report on an accepted file, byte for byte as far as the room reaches, and its length.
 use detections::Seen;
 use detections::detect;
 use rules::Kind;
@@ -8,12 +8,14 @@ use text::copy;
 use text::field;
 use text::labelled;
 use text::letter;
-use text::number;
 use text::put;
+use text::signed;
+ghost use mathlib.Core.Path.{_≡_};
 ghost use Prim.Native.Nat.{_≤_, _<_};
+ghost use lib.IntN.{pos, _-ℤ_};
 ghost use Rattle.rules.specs.File.{setOf};
-ghost use Rattle.rules.specs.Report.{headerLine, detectionLines, reportText};
-ghost use Rattle.text.specs.Text.{Wrote};
+ghost use Rattle.rules.specs.Report.{signed, headerLine, detectionLines, reportText};
+ghost use Rattle.text.specs.Text.{Wrote, signedRoom};
 ghost use Rattle.detections.specs.Detection.{Ready, Pair};
 ghost use Rattle.lines.specs.Lines.{headOf, changeOf, tailOf, lineOf, lineFor, nodeLines, lastOf, headRoom, changeRoom, tailRoom, lineRoom, nodeRoom, linesRoom, headerRoom, lastRoom, textRoom};
 
@@ -40,13 +42,30 @@ fn change(text: &mut [u8], at: usize, kind: Kind, topology: u8, next: u8) -> usi
     field(text, third, next)
 }
 
+// The extra hops: those of the backup path minus those in topology 0, below zero where it is the shorter.
+fn extra(hops: u8, plain: u8) -> i32
+    ensures { λ r. ⌜ r ≡ pos hops -ℤ pos plain ⌝ }
+{
+    let backup = hops as i32;
+    let before = plain as i32;
+    backup - before
+}
+
+fn extra_hops(text: &mut [u8], at: usize, hops: u8, plain: u8) -> usize
+    requires { ⌜ at < 8388608 ⌝ }
+    ensures { λ r. ⌜ Wrote (now (text .entry)) at (signed (pos hops -ℤ pos plain)) signedRoom r (now (text .exit)) ⌝ }
+{
+    let more = extra(hops, plain);
+    signed(text, at, more)
+}
+
 // The hops, the extra hops, the line's end.
-fn tail(text: &mut [u8], at: usize, hops: u8, extra: u8) -> usize
+fn tail(text: &mut [u8], at: usize, hops: u8, plain: u8) -> usize
     requires { ⌜ at < 2097152 ⌝ }
-    ensures { λ r. ⌜ Wrote (now (text .entry)) at (tailOf hops extra) tailRoom r (now (text .exit)) ⌝ }
+    ensures { λ r. ⌜ Wrote (now (text .entry)) at (tailOf hops plain) tailRoom r (now (text .exit)) ⌝ }
 {
     let second = field(text, at, hops);
-    let end = number(text, second, extra as usize);
+    let end = extra_hops(text, second, hops, plain);
     put(text, end, b'\n')
 }
 
@@ -57,7 +76,7 @@ fn line(text: &mut [u8], at: usize, u: u8, t: u8, seen: Seen) -> usize
     let second = head(text, at, u, seen.via, t);
     let kind = seen.kind;
     let third = change(text, second, kind, seen.topology, seen.next);
-    tail(text, third, seen.hops, seen.extra)
+    tail(text, third, seen.hops, seen.plain)
 }
 
 // ---- the lines in order

@@ -1,8 +1,10 @@
 -- Bytes written into a text at a cursor.
 use mathlib.Core.Path.{_≡_}
-use mathlib.Core.List.{List, _++_}
+use mathlib.Core.Bool.{Bool}
+use mathlib.Core.List.{List, _∷_, _++_}
 use Prim.Native.Nat.{ℕ, _+_, _≤_}
 use lib.ListN.{length}
+use Rattle.rules.specs.Basics.{if_then_else_}
 use Rattle.rules.specs.Report.{decimal, space}
 use Rattle.slices.specs.Stores.{put}
 
@@ -12,6 +14,10 @@ pub record Wrote (old : List ℕ) (at : ℕ) (bytes : List ℕ) (most r : ℕ) (
   pub on : r ≡ at + length bytes
   pub few : r ≤ at + most
   pub long : length new ≡ length old
+
+-- digits, and a minus sign before them where the number is below zero
+unfoldable pub withSign : Bool → ℕ → List ℕ
+withSign below x = if below then 45 ∷ decimal x else decimal x
 
 -- a number and the space after it
 unfoldable pub field : ℕ → List ℕ

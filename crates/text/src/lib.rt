@@ -6,11 +6,12 @@ use slices::store;
 ghost use mathlib.Core.Path.{_≡_};
 ghost use mathlib.Core.List.{[], _∷_, _++_};
 ghost use Prim.Native.Nat.{_+_, _≤_, _<_};
-ghost use lib.IntN.{natAbs};
+ghost use lib.IntN.{pos, natAbs};
 ghost use lib.ListN.{length};
+ghost use lib.Signed.{ltZ};
 ghost use Rattle.rules.specs.Forwarding.{letter};
 ghost use Rattle.rules.specs.Report.{digits, decimal, signed};
-ghost use Rattle.text.specs.Text.{Wrote, field, numberRoom, signedRoom, fieldRoom, labelRoom, labelledRoom};
+ghost use Rattle.text.specs.Text.{Wrote, withSign, field, numberRoom, signedRoom, fieldRoom, labelRoom, labelledRoom};
 
 // One byte.
 // Rules out: the same place given back, not the one after; the last byte overwritten where its own place is past the end.
@@ -70,6 +71,12 @@ pub fn number(text: &mut [u8], at: usize, x: usize) -> usize
     digits(text, at, x, 19)
 }
 
+fn below_zero(x: i32) -> bool
+    ensures { λ r. ⌜ r ≡ ltZ x (pos 0) ⌝ }
+{
+    x < 0
+}
+
 // How far a number is from zero.
 fn magnitude(x: i32) -> usize
     ensures { λ r. ⌜ r ≡ natAbs x ⌝ }
@@ -81,18 +88,27 @@ fn magnitude(x: i32) -> usize
     wide as usize
 }
 
+// Digits, a minus sign before them where the number is below zero.
+fn with_sign(text: &mut [u8], at: usize, below: bool, digits: usize) -> usize
+    requires { ⌜ at < 8388608 ⌝ }
+    ensures { λ r. ⌜ Wrote (now (text .entry)) at (withSign below digits) signedRoom r (now (text .exit)) ⌝ }
+{
+    if below {
+        let first = put(text, at, b'-');
+        return number(text, first, digits);
+    }
+    number(text, at, digits)
+}
+
 // A number in decimal, a minus sign before it where it is below zero.
 // Rules out: -1 written as 1 `sign_lost`; a minus sign before 0.
 pub fn signed(text: &mut [u8], at: usize, x: i32) -> usize
     requires { ⌜ at < 8388608 ⌝ }
     ensures { λ r. ⌜ Wrote (now (text .entry)) at (signed x) signedRoom r (now (text .exit)) ⌝ }
 {
+    let below = below_zero(x);
     let digits = magnitude(x);
-    if x < 0 {
-        let first = put(text, at, b'-');
-        return number(text, first, digits);
-    }
-    number(text, at, digits)
+    with_sign(text, at, below, digits)
 }
 
 // A number after its label.

@@ -7,7 +7,7 @@ returns : tie.Need-returns
 returns c = search wholes
 
 detect-requires : tie.Need-detect-requires
-detect-requires c κs = search needs
+detect-requires c κs = (search needs, (search needs, search needs))
 
 line-requires : tie.Need-line-requires
 line-requires c κs = search needs

@@ -6,8 +6,8 @@ use Rattle.lines.proofs.tail.Tie as tie
 field-requires : tie.Need-field-requires
 field-requires c κs = search needs
 
-number-requires : tie.Need-number-requires
-number-requires c κs = search needs
+extra-hops-requires : tie.Need-extra-hops-requires
+extra-hops-requires c κs = search needs
 
 put-requires : tie.Need-put-requires
 put-requires c κs = search needs
@@ -19,4 +19,6 @@ returns : tie.Need-returns
 returns c = search wholes
 
 pub tail-spec : {M : Type 1} → statement M
-tail-spec = tie.close (tie.spec field-requires number-requires put-requires same-length returns)
+tail-spec =
+    tie.close
+    (tie.spec field-requires extra-hops-requires put-requires same-length returns)
