@@ -11,7 +11,7 @@ use Rattle.rules.specs.declared.Verdict.the-variants.{Accepted, Refused}
 use Rattle.rules.specs.declared.LengthAnswer.{LengthAnswer}
 use Rattle.rules.specs.declared.LengthAnswer.the-variants as long
 use Rattle.rules.specs.Basics.{laid}
-use Rattle.rules.specs.Limits.{tablesLength, longest}
+use Rattle.rules.specs.Limits.{tablesLength, reportRoom, longest}
 use Rattle.rules.specs.File.{headerOf, setOf}
 use Rattle.rules.specs.Distance.{tableBytes}
 use Rattle.rules.specs.Judgement.{andThen, check, needRoom}
@@ -40,8 +40,13 @@ use Rattle.text.proofs.Texts.{wrote-laid, wrote-then}
 -- ---- room for the longest tables, and for the longest report
 
 -- the array that a report is written into, by its type
-pub array-long : (text : List ℕ) → length text ≡ 22875 → longest .report ≡ length text
-array-long text e = figures.longest-report ∙ sym e
+pub array-long : (text : List ℕ) → length text ≡ longest .report → longest .report ≡ length text
+array-long text e = sym e
+
+-- every refusal's line is shorter
+refusal-short : refusalRoom ≤ longest .report
+unfolding reportRoom longest
+refusal-short = omega arith
 
 module _ (s : List ℕ) where
   -- room that is enough for every accepted file leaves the verdict to the check
@@ -149,9 +154,9 @@ module _ (s : List ℕ) where
       let m : mid ≡ old = P .lent ∙ ap (λ (x : Verdict). onAccept x (laid (reportText (setOf s)) old) old) v in
       let z : r ≡ length (refusalLine number place) = w .on ∙ zero-add (length (refusalLine number place)) in
       record {
-        is = wrote-laid mid new (refusalLine number place) refusalRoom r w (omega (arith, w .few, figures.longest-report)) ∙ ap (laid (refusalLine number place)) m ∙ rw c;
+        is = wrote-laid mid new (refusalLine number place) refusalRoom r w (omega (arith, w .few, refusal-short)) ∙ ap (laid (refusalLine number place)) m ∙ rw c;
         long = z ∙ rw c;
-        fits = omega (arith, w .few, w .long, figures.longest-report);
+        fits = omega (arith, w .few, w .long, refusal-short);
       }
 
 pub says-report : (answer : LengthAnswer) (old : List ℕ) (bytes : ℕ) → answer ≡ long.Length bytes → Says answer old bytes old

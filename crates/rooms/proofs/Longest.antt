@@ -3,7 +3,7 @@ use mathlib.Core.Path.{_≡_, refl, sym, _∙_}
 use mathlib.Core.List.{List}
 use Prim.Native.Nat.{ℕ}
 use Rattle.rules.specs.Basics.{need}
-use Rattle.rules.specs.Limits.{rowWeights, rowLength, homeRecords, linkPlace, homePlace, rowPlace, fileLength, tablesLength, trailRoom, reportRoom, longest}
+use Rattle.rules.specs.Limits.{rowWeights, rowLength, homeRecords, linkPlace, homePlace, rowPlace, fileLength, tablesLength, trailRoom, longest}
 use Rattle.rooms.specs.Rooms.{Room}
 
 pub longest-file : longest .file ≡ 9192
@@ -17,10 +17,6 @@ longest-tables = refl
 pub longest-trail : longest .trail ≡ 62
 unfolding trailRoom longest
 longest-trail = refl
-
-pub longest-report : longest .report ≡ 22875
-unfolding reportRoom longest
-longest-report = refl
 
 -- two results that the promise allows coincide: every byte of the room
 pub one-room : (n : ℕ) (r r′ : List ℕ) → Room n r → Room n r′ → r ≡ r′

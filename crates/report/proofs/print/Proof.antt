@@ -1,3 +1,4 @@
+use Rattle.rules.specs.Limits.{reportRoom, longest}
 use borrow.Author.Needs.{needs}
 use Rattle.report.proofs.Answers.{answers}
 use Rattle.report.proofs.print.Statement.{statement}
@@ -10,6 +11,7 @@ say-requires : tie.Need-say-requires
 say-requires c κs = search needs
 
 returns : tie.Need-returns
+unfolding reportRoom longest
 returns c = search answers
 
 pub print-spec : {M : Type 1} → statement M

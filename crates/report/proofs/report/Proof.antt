@@ -1,3 +1,4 @@
+use Rattle.rules.specs.Limits.{reportRoom, longest}
 use borrow.Author.Needs.{needs}
 use Rattle.report.proofs.Answers.{answers}
 use Rattle.report.proofs.report.Statement.{statement}
@@ -16,6 +17,7 @@ slice-aggregate-report-by : tie.Need-slice-aggregate-report-by
 slice-aggregate-report-by c = search needs
 
 report-by-requires : tie.Need-report-by-requires
+unfolding reportRoom longest
 report-by-requires c κs = (search needs, search answers)
 
 returns : tie.Need-returns
