@@ -55,6 +55,12 @@ static uint8_t *number(uint8_t *p, int x, char after) {
     return p;
 }
 
+// The same with a minus sign where it is below zero.
+static uint8_t *signed_number(uint8_t *p, int x, char after) {
+    if (x < 0) *p++ = '-', x = -x;
+    return number(p, x, after);
+}
+
 static uint8_t *line(const Tables &tables, int u, int t, uint8_t *p) {
     int v = tables.next(0, u, t), none = tables.s.n;
     Detection found = detect(tables, u, v, t);
@@ -62,7 +68,7 @@ static uint8_t *line(const Tables &tables, int u, int t, uint8_t *p) {
     p = number(p, u, ' '), p = number(p, v, ' '), p = number(p, t, ' ');
     *p++ = found.kind, *p++ = ' ';
     p = number(p, found.topology, ' '), p = number(p, found.taken, ' '), p = number(p, backup, ' ');
-    return number(p, backup > plain ? backup - plain : 0, '\n');
+    return signed_number(p, backup - plain, '\n');
 }
 
 size_t peer_report(Engine engine, const Set &s, uint8_t *out) {

@@ -20,7 +20,7 @@
 #define BURNISHPEG_LONGEST_FILE 9192
 #define BURNISHPEG_LONGEST_TABLES 34816
 #define BURNISHPEG_LONGEST_TRAIL 62
-#define BURNISHPEG_LONGEST_REPORT 22875
+#define BURNISHPEG_LONGEST_REPORT 23867
 
 /* What is down: nothing; the link with this number; the node with this number. Any other kind is refusal 11. */
 #define BURNISHPEG_NOTHING 0

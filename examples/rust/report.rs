@@ -6,7 +6,7 @@ extern "C" {
 }
 
 /// Room that is enough for every report.
-const LONGEST_REPORT: usize = 22_875;
+const LONGEST_REPORT: usize = 23_867;
 
 /// The report's text, or the refusal's number and place.
 fn report(file: &[u8]) -> Result<Vec<u8>, (u8, u32)> {

@@ -1,5 +1,5 @@
 -- What the code looks up and counts by the file's own tables is what the rules say of its set.
-use mathlib.Core.Path.{_≡_, refl, sym, ap, subst, _∙_}
+use mathlib.Core.Path.{_≡_, refl, sym, ap, ap₂, subst, _∙_}
 use mathlib.Core.Bool.{Bool, true, false}
 use mathlib.Core.List.{List}
 use Prim.Native.Nat.{ℕ, zero, suc, _+_, _-_, _≤_, _<_}
@@ -9,56 +9,28 @@ use lib.Dec.{eqb}
 use lib.ListN.{getD}
 use borrow.Author.Tests.{eq-eqb, ne-eqb, eqb-false}
 use Rattle.rules.specs.declared.Network.{Network}
-use Rattle.rules.specs.declared.Packet.{Packet}
-use Rattle.rules.specs.declared.Failure.{Failure}
-use Rattle.rules.specs.declared.Failure.the-variants.{Node}
-use Rattle.rules.specs.declared.Kind.{Kind}
 use Rattle.rules.specs.declared.Kind.the-variants as change
 use Rattle.rules.specs.declared.Step.{Step}
-use Rattle.rules.specs.declared.Step.the-variants.{Delivered, Moved, Dropped}
+use Rattle.rules.specs.declared.Step.the-variants.{Moved}
 use Rattle.rules.specs.Basics.{if_then_else_}
 use Rattle.rules.specs.Limits.{mostHops}
-use Rattle.rules.specs.File.{Set, setOf}
+use Rattle.rules.specs.File.{Set, headerOf, setOf}
+use Rattle.rules.specs.Isolation.{home}
 use Rattle.rules.specs.Distance.{nextHop}
-use Rattle.rules.specs.Forwarding.{nodes, faultOf, up, tablesOf, entryPlace, lentTables, packet, step}
+use Rattle.rules.specs.Forwarding.{tablesOf, entryPlace, lentTables, packet}
 use Rattle.rules.specs.Report.{packetOf, kindOf, detection, backupHops, plainHops}
 use Rattle.rules.proofs.Ground.Choices.{if-yes, if-no}
 use Rattle.rules.proofs.File.SetOfBytes.{net-held}
-use Rattle.rules.proofs.File.Checked.{checked-file, checked-set}
+use Rattle.rules.proofs.File.Checked.{checked-set}
+use Rattle.rules.proofs.Isolation.Homes.{home-high}
 use Rattle.rules.proofs.Distance.NextHops.{least-next-hops}
-use Rattle.rules.proofs.Forwarding.Runs.{starts}
-use Rattle.rules.proofs.Forwarding.LentTables.{Agree, lent-agree, step-same}
+use Rattle.rules.proofs.Forwarding.Runs.{Within}
+use Rattle.rules.proofs.Forwarding.LentTables.{Agree, lent-agree}
 use Rattle.rules.proofs.Report.TextLength.{after-detection}
-use Rattle.linkstate.specs.Links.{Judged, on}
-use Rattle.onehop.specs.Hop.{tablesAt, stepAt}
+use Rattle.onehop.specs.declared.Change.{Change}
+use Rattle.onehop.specs.Hop.{tablesAt, kindBy, detourBy, detourOf}
 use Rattle.detections.specs.Detection.{Ready, Pair, walkHops, Walked, seenBy}
-use Rattle.detections.proofs.Walks.{along, plain-along, backup-of, detection-by-node}
-
--- ---- the parts of a step
-
-pub kind-delivered : (s : Step) (p : Packet) → s ≡ Delivered p → change.Unchanged ≡ kindOf s
-unfolding kindOf
-kind-delivered s p e = rw e
-
-pub kind-moved : (s : Step) (p : Packet) (k : Kind) → s ≡ Moved p k → k ≡ kindOf s
-unfolding kindOf
-kind-moved s p k e = rw e
-
-pub kind-dropped : (s : Step) (p : Packet) → s ≡ Dropped p → change.Unchanged ≡ kindOf s
-unfolding kindOf
-kind-dropped s p e = rw e
-
-pub packet-delivered : (s : Step) (p : Packet) → s ≡ Delivered p → p ≡ packetOf s
-unfolding packetOf
-packet-delivered s p e = rw e
-
-pub packet-moved : (s : Step) (p : Packet) (k : Kind) → s ≡ Moved p k → p ≡ packetOf s
-unfolding packetOf
-packet-moved s p k e = rw e
-
-pub packet-dropped : (s : Step) (p : Packet) → s ≡ Dropped p → p ≡ packetOf s
-unfolding packetOf
-packet-dropped s p e = rw e
+use Rattle.detections.proofs.Walks.{along, plain-along, backup-along, detection-along}
 
 -- ---- the next hops of one topology, counted
 
@@ -103,8 +75,8 @@ module _ (tables : List ℕ) (net : Network) (i t : ℕ) where
 -- ---- by the file's own tables
 
 module _ (s tables : List ℕ) (net : Network) (R : Ready s net tables) where
-  pub ready-judged : Judged s net
-  ready-judged = record { accepted = checked-file s (R .accepted); header = R .header }
+  pub ready-header : net ≡ headerOf s
+  ready-header = R .header
 
   pub same-net : net ≡ setOf s .net
   same-net = R .header ∙ sym (net-held s)
@@ -123,11 +95,14 @@ module _ (s tables : List ℕ) (net : Network) (R : Ready s net tables) where
       ap (λ (h : Network). getD tables (entryPlace h 0 u t) 0) (R .header)
       ∙ agree .next 0 u t (omega arith) (in-set u (P .node)) (in-set t (P .end))
 
-  same-step : (f : Failure) (u t : ℕ) → Pair net u t → stepAt s tables f (packet u t 0) ≡ step (setOf s) (tablesOf (setOf s)) (up (setOf s) (faultOf f)) (packet u t 0)
-  unfolding stepAt
-  same-step f u t P =
-      let A = checked-set s (R .accepted) in
-      step-same (setOf s) A (on s f) (tablesAt s tables) agree (packet u t 0) (starts (setOf s) A (on s f) u t (in-set u (P .node)) (in-set t (P .end)))
+  -- the file's tables lead to the detour that the rules say
+  same-detour : (u t via : ℕ) → Pair net u t → via < setOf s .net .n → detourOf (setOf s) (tablesAt s tables) u t via ≡ detourOf (setOf s) (tablesOf (setOf s)) u t via
+  unfolding detourOf detourBy tablesOf
+  same-detour u t via P lv =
+      let S = setOf s in
+      let lu = in-set u (P .node) in
+      ap₂ (λ (w x : ℕ). if eqb w via then record { next = x; topology = home S u; kind = change.D } else record { next = w; topology = home S via; kind = kindBy t via })
+      (agree .next (home S via) u t (home-high S (checked-set s (R .accepted)) via lv) lu (in-set t (P .end))) (agree .alternate u via lu lv)
 
   -- the tables' next hops are those of the rules, all the way
   same-walk : (i t most u : ℕ) → i ≤ setOf s .net .k → t < setOf s .net .n → u < setOf s .net .n → walkHops tables net i t most u ≡ along (setOf s) i t most u
@@ -151,34 +126,34 @@ module _ (s tables : List ℕ) (net : Network) (R : Ready s net tables) where
           let low = least-next-hops S (checked-set s (R .accepted)) i u t li lu lt (eqb-false u t e) .node in
           ap (λ (x : ℕ). if eqb u t then 0 else suc (walkHops tables net i t most x)) there ∙ ap (λ (x : ℕ). if eqb u t then 0 else suc x) (rest low)
 
-  -- what the node sees, from the step that it takes where its next hop is down and the next hops that are counted
-  pub seen-of : (u t via most back plain : ℕ) (st : Step) (p : Packet) (kind : Kind) → Pair net u t → (u ≡ t → ⊥)
-      → via ≡ getD tables (entryPlace net 0 u t) 0 → st ≡ stepAt s tables (Node via) (packet u t 0) → p ≡ packetOf st → kind ≡ kindOf st → most ≡ mostHops net
-      → Walked tables net (p .topology) (p .place) t (most - 1) back → Walked tables net 0 u t most plain
-      → record { via = via; kind = kind; topology = p .topology; next = p .place; hops = back + 1; plain = plain } ≡ seenBy (setOf s) u t
-  unfolding seenBy faultOf
-  seen-of u t via most back plain st p kind P ne e0 e1 e2 e3 e4 B F =
+  -- what the node sees, from its detour and the next hops that are counted
+  pub seen-of : (u t via most back plain : ℕ) (d : Change) → Pair net u t → (u ≡ t → ⊥)
+      → via ≡ getD tables (entryPlace net 0 u t) 0 → d ≡ detourOf (setOf s) (tablesAt s tables) u t via → most ≡ mostHops net
+      → Walked tables net (d .topology) (d .next) t (most - 1) back → Walked tables net 0 u t most plain
+      → record { via = via; kind = d .kind; topology = d .topology; next = d .next; hops = back + 1; plain = plain } ≡ seenBy (setOf s) u t
+  unfolding seenBy packetOf kindOf
+  seen-of u t via most back plain d P ne e0 e1 e2 B F =
       let S = setOf s in
       let A = checked-set s (R .accepted) in
       let lu = in-set u (P .node) in
       let lt = in-set t (P .end) in
       let v : via ≡ nextHop S 0 u t = e0 ∙ same-next u t P in
-      let x : st ≡ detection S u t = e1 ∙ same-step (Node via) u t P ∙ ap (λ (y : ℕ). step S (tablesOf S) (up S (nodes (eqb y))) (packet u t 0)) v ∙ sym (detection-by-node S A u t lu lt ne) in
-      let q : p ≡ packetOf (detection S u t) = e2 ∙ ap packetOf x in
-      let k : kind ≡ kindOf (detection S u t) = e3 ∙ ap kindOf x in
-      let m : most ≡ mostHops (S .net) = e4 ∙ ap mostHops same-net in
-      let W = after-detection S A u t lu lt ne in
+      let lv : via < S .net .n = subst (λ (x : ℕ). x < S .net .n) (sym v) (least-next-hops S A 0 u t (omega arith) lu lt ne .node) in
+      let x : detection S u t ≡ Moved (packet (d .next) t (d .topology)) (d .kind) =
+      detection-along S A u t lu lt ne d (e1 ∙ same-detour u t via P lv ∙ ap (detourOf S (tablesOf S) u t) v)
+      in
+      let m : most ≡ mostHops (S .net) = e2 ∙ ap mostHops same-net in
+      let W : Within S (packet (d .next) t (d .topology)) = subst (λ (y : Step). Within S (packetOf y)) x (after-detection S A u t lu lt ne) in
       let b : back + 1 ≡ backupHops S u t =
       add-one back
-      ∙ ap suc (B .is ∙ ap (λ (y : Packet). walkHops tables net (y .topology) t (most - 1) (y .place)) q
-      ∙ ap (λ (y : ℕ). walkHops tables net (packetOf (detection S u t) .topology) t (y - 1) (packetOf (detection S u t) .place)) m
-      ∙ same-walk (packetOf (detection S u t) .topology) t (mostHops (S .net) - 1) (packetOf (detection S u t) .place) (W .known) lt (W .node))
-      ∙ sym (backup-of S A u t lu lt ne)
+      ∙ ap suc (B .is ∙ ap (λ (y : ℕ). walkHops tables net (d .topology) t (y - 1) (d .next)) m ∙ same-walk (d .topology) t (mostHops (S .net) - 1) (d .next) (W .known) lt (W .node))
+      ∙ sym (backup-along S A u t lu lt ne (packet (d .next) t (d .topology)) (d .kind) x)
       in
       let f : plain ≡ plainHops S u t =
       F .is ∙ ap (λ (y : ℕ). walkHops tables net 0 t y u) m ∙ same-walk 0 t (mostHops (S .net)) u (omega arith) lt lu ∙ sym (plain-along S A u t lu lt ne)
       in
-      λ i. record { via = v i; kind = k i; topology = q i .topology; next = q i .place; hops = b i; plain = f i }
+      let y = sym x in
+      λ i. record { via = v i; kind = kindOf (y i); topology = packetOf (y i) .topology; next = packetOf (y i) .place; hops = b i; plain = f i }
 
 pub ruleset walks = (walk-begins, walk-goes-on, walk-arrives, walk-stops)
-pub ruleset seens = (ready-judged, kind-delivered, kind-moved, kind-dropped, packet-delivered, packet-moved, packet-dropped, seen-of)
+pub ruleset seens = (ready-header, seen-of)

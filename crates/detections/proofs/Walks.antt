@@ -1,30 +1,31 @@
 -- Hops counted along the next hops of one topology. A run that is delivered, in a backup topology or with nothing down, makes just these; and the detecting node's
--- step is the same where its next hop is what failed, since it sees only that the hop is down.
+-- step is the move along its detour, which is never dropped.
 use mathlib.Core.Path.{_≡_, refl, sym, ap, subst, _∙_}
-use mathlib.Core.Bool.{Bool, true, false, not, _||_, true≢false}
+use mathlib.Core.Bool.{Bool, true, false, true≢false}
 use Prim.Native.Nat.{ℕ, zero, suc, _-_, _*_, _≤_, _<_}
 use native.Mathlib.Omega.{arith}
 use lib.Dec.{eqb}
-use borrow.Author.Tests.{eq-eqb, ne-eqb, eqb-true, eqb-false}
+use borrow.Author.Tests.{ne-eqb}
 use Rattle.rules.specs.declared.Packet.{Packet}
 use Rattle.rules.specs.declared.Kind.{Kind}
 use Rattle.rules.specs.declared.Kind.the-variants as change
 use Rattle.rules.specs.declared.Step.{Step}
 use Rattle.rules.specs.declared.Step.the-variants.{Delivered, Moved, Dropped}
-use Rattle.rules.specs.declared.Outcome.{Outcome}
 use Rattle.rules.specs.declared.Outcome.the-variants as ended
 use Rattle.rules.specs.Basics.{if_then_else_}
 use Rattle.rules.specs.Limits.{mostHops}
 use Rattle.rules.specs.File.{Set}
 use Rattle.rules.specs.Isolation.{home}
-use Rattle.rules.specs.Distance.{distance, nextHop, alternate}
-use Rattle.rules.specs.Forwarding.{nothing, link, nodes, failed, up, tablesOf, packet, moveOrDrop, changeTo, blocked, toward, step, Run, hops, stop, onward, afterStep, run, runUnder}
-use Rattle.rules.specs.Report.{packetOf, detectedLink, detection, backupHops, plainHops}
+use Rattle.rules.specs.Distance.{nextHop}
+use Rattle.rules.specs.Forwarding.{nothing, link, failed, up, tablesOf, packet, moveOrDrop, changeTo, blocked, toward, step, Run, hops, stop, onward, afterStep, run, runUnder}
+use Rattle.rules.specs.Report.{detectedLink, detection, backupHops, plainHops}
 use Rattle.rules.specs.Sets.{AcceptedSet}
 use Rattle.rules.proofs.Ground.Choices.{if-yes, if-no}
-use Rattle.rules.proofs.Forwarding.Routing.{Nearer, usable-neighbours, next-nearer, last-hop, two-homes, alternate-other}
 use Rattle.rules.proofs.Forwarding.Delivery.{delivery}
 use Rattle.rules.proofs.Report.Lines.{Changes, detected, detection-changes}
+use Rattle.onehop.specs.declared.Change.{Change}
+use Rattle.onehop.specs.Hop.{detourOf}
+use Rattle.onehop.proofs.Hops.{change-along}
 
 -- ---- along one topology
 
@@ -46,10 +47,11 @@ module _ (S : Set) (on : ℕ → ℕ → Bool) (i u t : ℕ) where
   unfolding step toward blocked tablesOf
   step-stuck e o lo = if-no (eqb u t) _ _ e ∙ if-no (on u (nextHop S i u t)) _ _ o ∙ if-no (eqb i 0) _ _ (ne-eqb i 0 (λ z. omega arith))
 
-  step-blocked : eqb u t ≡ false → on u (nextHop S i u t) ≡ false → i ≡ 0
-      → step S (tablesOf S) on (packet u t i) ≡ changeTo S (tablesOf S) on (packet u t i) (nextHop S i u t) (nextHop S (home S (nextHop S i u t)) u t)
-  unfolding step toward blocked tablesOf
-  step-blocked e o z = if-no (eqb u t) _ _ e ∙ if-no (on u (nextHop S i u t)) _ _ o ∙ if-yes (eqb i 0) _ _ (eq-eqb i 0 z)
+-- the next hop in topology 0 cannot be reached
+step-blocked : (S : Set) (on : ℕ → ℕ → Bool) (u t : ℕ) → eqb u t ≡ false → on u (nextHop S 0 u t) ≡ false
+    → step S (tablesOf S) on (packet u t 0) ≡ changeTo S (tablesOf S) on (packet u t 0) (nextHop S 0 u t) (tablesOf S .next (home S (nextHop S 0 u t)) u t)
+unfolding step toward blocked tablesOf
+step-blocked S on u t e o = if-no (eqb u t) _ _ e ∙ if-no (on u (nextHop S 0 u t)) _ _ o ∙ if-yes (eqb 0 0) _ _ refl
 
 no-hops : (p : Packet) (s : Step) → hops (afterStep s (λ q kind. stop p ended.UnderWay)) ≡ 0
 unfolding hops afterStep stop
@@ -101,7 +103,7 @@ module _ (S : Set) (A : AcceptedSet S) (u t : ℕ) (lu : u < S .net .n) (lt : t 
   on = up S (link (detectedLink S u t))
 
   -- after the change
-  backup-along : (q : Packet) (kind : Kind) → detection S u t ≡ Moved q kind → backupHops S u t ≡ suc (along S (q .topology) t (mostHops (S .net) - 1) (q .place))
+  pub backup-along : (q : Packet) (kind : Kind) → detection S u t ≡ Moved q kind → backupHops S u t ≡ suc (along S (q .topology) t (mostHops (S .net) - 1) (q .place))
   unfolding backupHops runUnder failed run hops afterStep onward detection mostHops
   backup-along q kind e =
       let c : Changes t (Moved q kind) = subst (Changes t) e (detection-changes S A u t lu lt ne) in
@@ -116,33 +118,7 @@ module _ (S : Set) (A : AcceptedSet S) (u t : ℕ) (lu : u < S .net .n) (lt : t 
       ap hops (whole ∙ ap (onward (q .place) kind) same)
       ∙ ap suc (run-along S on (q .topology) t (λ x y o. c .1) few (q .place) done)
 
-  pub backup-of : backupHops S u t ≡ suc (along S (packetOf (detection S u t) .topology) t (mostHops (S .net) - 1) (packetOf (detection S u t) .place))
-  unfolding packetOf
-  backup-of = go (detection S u t) refl (detection-changes S A u t lu lt ne)
-    where
-      go : (s : Step) → detection S u t ≡ s → Changes t s → backupHops S u t ≡ suc (along S (packetOf s .topology) t (mostHops (S .net) - 1) (packetOf s .place))
-      go (Delivered q) e c = absurd c
-      go (Dropped q) e c = absurd c
-      go (Moved q kind) e c = backup-along q kind e
-
-  -- ---- the next hop itself is down
-
-  abbrev off : ℕ → ℕ → Bool
-  off = up S (nodes (eqb via))
-
-  off-via : off u via ≡ false
-  unfolding up
-  off-via = go (eqb via u)
-    where
-      go : (b : Bool) → not (b || eqb via via) ≡ false
-      go true = refl
-      go false = rw (eq-eqb via via refl) refl
-
-  off-other : (w : ℕ) → (w ≡ via → ⊥) → off u w ≡ true
-  unfolding up
-  off-other w other =
-      let near = next-nearer S A u t lu lt ne 0 (omega arith) .near in
-      rw (ne-eqb via u (λ z. omega (arith, ap (λ (x : ℕ). distance S 0 x t) z)), ne-eqb via w (λ z. other (sym z))) refl
+  -- ---- its step
 
   on-via : on u via ≡ false
   on-via = go (on u via) refl
@@ -151,38 +127,19 @@ module _ (S : Set) (A : AcceptedSet S) (u t : ℕ) (lu : u < S .net .n) (lt : t 
       go true o = absurd (detected S A u t lu lt ne via refl o)
       go false o = o
 
-  -- a change that is no drop goes over a hop that is up both ways
-  move-same : (w j : ℕ) (kind : Kind) → Changes t (moveOrDrop on (packet u t 0) w j kind) → off u w ≡ true → moveOrDrop on (packet u t 0) w j kind ≡ moveOrDrop off (packet u t 0) w j kind
+  -- a change that is no drop
+  moved-on : (w j : ℕ) (kind : Kind) → Changes t (moveOrDrop on (packet u t 0) w j kind) → moveOrDrop on (packet u t 0) w j kind ≡ Moved (packet w t j) kind
   unfolding moveOrDrop
-  move-same w j kind c o = go (on u w) refl c
+  moved-on w j kind c = go (on u w) refl c
     where
-      go : (b : Bool) → on u w ≡ b → Changes t (moveOrDrop on (packet u t 0) w j kind) → moveOrDrop on (packet u t 0) w j kind ≡ moveOrDrop off (packet u t 0) w j kind
-      go true e k = if-yes (on u w) _ _ e ∙ sym (if-yes (off u w) _ _ o)
+      go : (b : Bool) → on u w ≡ b → Changes t (moveOrDrop on (packet u t 0) w j kind) → moveOrDrop on (packet u t 0) w j kind ≡ Moved (packet w t j) kind
+      go true e k = if-yes (on u w) _ _ e
       go false e k = absurd (subst (Changes t) (if-no (on u w) (Moved (packet w t j) kind) (Dropped (packet u t 0)) e) k)
 
-  change-same : (w : ℕ) → w ≡ nextHop S (home S via) u t → Changes t (changeTo S (tablesOf S) on (packet u t 0) via w) → changeTo S (tablesOf S) on (packet u t 0) via w ≡ changeTo S (tablesOf S) off (packet u t 0) via w
-  unfolding changeTo tablesOf
-  change-same w e c = go (eqb w via) refl
-    where
-      near : Nearer S 0 u t via
-      near = next-nearer S A u t lu lt ne 0 (omega arith)
-
-      go : (b : Bool) → eqb w via ≡ b → changeTo S (tablesOf S) on (packet u t 0) via w ≡ changeTo S (tablesOf S) off (packet u t 0) via w
-      go true q =
-          let two = two-homes S A u t lu lt ne via (near .node) (sym e ∙ eqb-true w via q) in
-          let other = alternate-other S A u via lu (near .node) (usable-neighbours S 0 u via (near .over)) two in
-          let k = subst (Changes t) (if-yes (eqb w via) _ _ q) c in
-          if-yes (eqb w via) _ _ q ∙ move-same (alternate S u via) (home S u) change.D k (off-other (alternate S u via) other) ∙ sym (if-yes (eqb w via) _ _ q)
-      go false q =
-          let kind = if eqb t via then change.S else change.T in
-          let k = subst (Changes t) (if-no (eqb w via) _ _ q) c in
-          if-no (eqb w via) _ _ q ∙ move-same w (home S via) kind k (off-other w (eqb-false w via q)) ∙ sym (if-no (eqb w via) _ _ q)
-
-  pub detection-by-node : detection S u t ≡ step S (tablesOf S) off (packet u t 0)
+  pub detection-along : (d : Change) → d ≡ detourOf S (tablesOf S) u t via → detection S u t ≡ Moved (packet (d .next) t (d .topology)) (d .kind)
   unfolding detection
-  detection-by-node =
-      let apart = ne-eqb u t ne in
-      let first = step-blocked S on 0 u t apart on-via refl in
-      first
-      ∙ change-same (nextHop S (home S via) u t) refl (subst (Changes t) first (detection-changes S A u t lu lt ne))
-      ∙ sym (step-blocked S off 0 u t apart off-via refl)
+  detection-along d e =
+      let first : detection S u t ≡ moveOrDrop on (packet u t 0) (d .next) (d .topology) (d .kind) =
+      step-blocked S on u t (ne-eqb u t ne) on-via ∙ sym (change-along S (tablesOf S) on (packet u t 0) via d e)
+      in
+      first ∙ moved-on (d .next) (d .topology) (d .kind) (subst (Changes t) first (detection-changes S A u t lu lt ne))

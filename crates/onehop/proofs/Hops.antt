@@ -13,13 +13,14 @@ use Rattle.rules.specs.declared.Kind.{Kind}
 use Rattle.rules.specs.declared.Kind.the-variants as change
 use Rattle.rules.specs.declared.Step.{Step}
 use Rattle.rules.specs.declared.Step.the-variants.{Delivered, Moved, Dropped}
-use Rattle.rules.specs.Basics.{need}
-use Rattle.rules.specs.File.{headerOf, setOf}
+use Rattle.rules.specs.Basics.{if_then_else_, need}
+use Rattle.rules.specs.File.{Set, headerOf, setOf}
 use Rattle.rules.specs.Isolation.{neighbours, home}
-use Rattle.rules.specs.Forwarding.{entryPlace, lentTables, packet, moveOrDrop, changeTo, blocked, toward, step, alternateNumber, changeNumber, towardNumber, lookupNumber}
+use Rattle.rules.specs.Forwarding.{Tables, entryPlace, lentTables, packet, moveOrDrop, changeTo, blocked, toward, step, alternateNumber, changeNumber, towardNumber, lookupNumber}
 use Rattle.rules.proofs.Ground.Choices.{if-yes, if-no, need-yes, need-no}
 use Rattle.linkstate.specs.Links.{on}
-use Rattle.onehop.specs.Hop.{tablesAt, kindBy, onwardNumber, stepAt, lookupAt}
+use Rattle.onehop.specs.Hop.{tablesAt, kindBy, detourBy, detourOf, onwardNumber, stepAt, lookupAt}
+use Rattle.onehop.specs.declared.Change.{Change}
 
 -- ---- the tables
 
@@ -53,30 +54,54 @@ pub kind-other : (t v : ℕ) → (t ≡ v → ⊥) → change.T ≡ kindBy t v
 unfolding kindBy
 kind-other t v e = sym (if-no (eqb t v) _ _ (ne-eqb t v e))
 
+abbrev detour : ℕ → ℕ → Kind → Change
+detour x j kind = record { next = x; topology = j; kind = kind }
+
+module _ (s tables : List ℕ) (h : Network) (n : h ≡ headerOf s) (u t v w : ℕ) where
+  -- the next hop in v's home topology is v again: the alternate for v, in the node's own home topology
+  pub detour-back : (x j : ℕ) → x ≡ getD tables (entryPlace h (h .k + 1) u v) 0 → j ≡ home (setOf s) u → w ≡ v
+      → record { next = x; topology = j; kind = change.D } ≡ detourBy (setOf s) (tablesAt s tables) u t v w
+  unfolding detourBy
+  detour-back x j d g e =
+      ap₂ (λ (a b : ℕ). detour a b change.D) (alternate-is s tables h n u v x d) g ∙ sym (if-yes (eqb w v) _ _ (eq-eqb w v e))
+
+  pub detour-there : (j : ℕ) (kind : Kind) → j ≡ home (setOf s) v → kind ≡ kindBy t v → (w ≡ v → ⊥)
+      → record { next = w; topology = j; kind = kind } ≡ detourBy (setOf s) (tablesAt s tables) u t v w
+  unfolding detourBy
+  detour-there j kind g k e = ap₂ (λ (a : ℕ) (b : Kind). detour w a b) g k ∙ sym (if-no (eqb w v) _ _ (ne-eqb w v e))
+
+  pub detour-is : (j : ℕ) (r : Change) → j ≡ home (setOf s) v → w ≡ getD tables (entryPlace h j u t) 0 → r ≡ detourBy (setOf s) (tablesAt s tables) u t v w → r ≡ detourOf (setOf s) (tablesAt s tables) u t v
+  unfolding detourOf
+  detour-is j r g d q =
+      let x : w ≡ tablesAt s tables .next (home (setOf s) v) u t = next-is s tables h n j u t w d ∙ ap (λ (k : ℕ). tablesAt s tables .next k u t) g in
+      q ∙ ap (detourBy (setOf s) (tablesAt s tables) u t v) x
+
+-- the change that the rule makes is along the detour
+pub change-along : (S : Set) (tables : Tables) (on : ℕ → ℕ → Bool) (p : Packet) (v : ℕ) (d : Change) → d ≡ detourOf S tables (p .place) (p .destination) v
+    → moveOrDrop on p (d .next) (d .topology) (d .kind) ≡ changeTo S tables on p v (tables .next (home S v) (p .place) (p .destination))
+unfolding detourOf detourBy changeTo kindBy
+change-along S tables on p v d e = ap (λ (x : Change). moveOrDrop on p (x .next) (x .topology) (x .kind)) e ∙ go (eqb w v) refl
+  where
+    w : ℕ
+    w = tables .next (home S v) (p .place) (p .destination)
+
+    back : Change
+    back = record { next = tables .alternate (p .place) v; topology = home S (p .place); kind = change.D }
+
+    there : Change
+    there = record { next = w; topology = home S v; kind = if eqb (p .destination) v then change.S else change.T }
+
+    go : (b : Bool) → eqb w v ≡ b
+        → moveOrDrop on p ((if eqb w v then back else there) .next) ((if eqb w v then back else there) .topology) ((if eqb w v then back else there) .kind)
+        ≡ (if eqb w v then moveOrDrop on p (back .next) (back .topology) (back .kind) else moveOrDrop on p (there .next) (there .topology) (there .kind))
+    go true q = ap (λ (x : Change). moveOrDrop on p (x .next) (x .topology) (x .kind)) (if-yes (eqb w v) back there q) ∙ sym (if-yes (eqb w v) _ _ q)
+    go false q = ap (λ (x : Change). moveOrDrop on p (x .next) (x .topology) (x .kind)) (if-no (eqb w v) back there q) ∙ sym (if-no (eqb w v) _ _ q)
+
 module _ (s tables : List ℕ) (f : Failure) (p : Packet) where
-  -- the next hop in v's home topology is v again: the alternate for v, in the packet's node's home topology
-  pub change-back : (h : Network) (v w x j : ℕ) (r : Step) → h ≡ headerOf s → w ≡ v → x ≡ getD tables (entryPlace h (h .k + 1) (p .place) v) 0 → j ≡ home (setOf s) (p .place) → r ≡ moveOrDrop (on s f) p x j change.D
-      → r ≡ changeTo (setOf s) (tablesAt s tables) (on s f) p v w
-  unfolding changeTo
-  change-back h v w x j r n e d g q =
-      q
-      ∙ ap₂ (λ (a b : ℕ). moveOrDrop (on s f) p a b change.D) (alternate-is s tables h n (p .place) v x d) g
-      ∙ sym (if-yes (eqb w v) _ _ (eq-eqb w v e))
-
-  pub change-there : (v w j : ℕ) (kind : Kind) (r : Step) → (w ≡ v → ⊥) → j ≡ home (setOf s) v → kind ≡ kindBy (p .destination) v → r ≡ moveOrDrop (on s f) p w j kind
-      → r ≡ changeTo (setOf s) (tablesAt s tables) (on s f) p v w
-  unfolding changeTo kindBy
-  change-there v w j kind r e g k q =
-      q
-      ∙ ap₂ (λ (a : ℕ) (b : Kind). moveOrDrop (on s f) p w a b) g k
-      ∙ sym (if-no (eqb w v) _ _ (ne-eqb w v e))
-
-  pub blocked-first : (h : Network) (v w j : ℕ) (r : Step) → h ≡ headerOf s → p .topology ≡ 0 → j ≡ home (setOf s) v → w ≡ getD tables (entryPlace h j (p .place) (p .destination)) 0
-      → r ≡ changeTo (setOf s) (tablesAt s tables) (on s f) p v w → r ≡ blocked (setOf s) (tablesAt s tables) (on s f) p v
+  pub blocked-first : (v : ℕ) (d : Change) (r : Step) → d ≡ detourOf (setOf s) (tablesAt s tables) (p .place) (p .destination) v → p .topology ≡ 0
+      → r ≡ moveOrDrop (on s f) p (d .next) (d .topology) (d .kind) → r ≡ blocked (setOf s) (tablesAt s tables) (on s f) p v
   unfolding blocked
-  blocked-first h v w j r n e g d q =
-      let x : w ≡ tablesAt s tables .next (home (setOf s) v) (p .place) (p .destination) = next-is s tables h n j (p .place) (p .destination) w d ∙ ap (λ (k : ℕ). tablesAt s tables .next k (p .place) (p .destination)) g in
-      q ∙ ap (changeTo (setOf s) (tablesAt s tables) (on s f) p v) x ∙ sym (if-yes (eqb (p .topology) 0) _ _ (eq-eqb (p .topology) 0 e))
+  blocked-first v d r e z q = q ∙ change-along (setOf s) (tablesAt s tables) (on s f) p v d e ∙ sym (if-yes (eqb (p .topology) 0) _ _ (eq-eqb (p .topology) 0 z))
 
   pub blocked-later : (v : ℕ) → (p .topology ≡ 0 → ⊥) → Dropped p ≡ blocked (setOf s) (tablesAt s tables) (on s f) p v
   unfolding blocked
@@ -101,7 +126,7 @@ module _ (s tables : List ℕ) (f : Failure) (p : Packet) where
       q ∙ ap (toward (setOf s) (tablesAt s tables) (on s f) p) (next-is s tables h n (p .topology) (p .place) (p .destination) v d)
       ∙ sym (if-no (eqb (p .place) (p .destination)) _ _ (ne-eqb (p .place) (p .destination) e))
 
-pub ruleset hop = (entry-is, move-up, move-down, kind-same, kind-other, change-back, change-there, blocked-first, blocked-later, toward-up, toward-down, step-there, step-onward)
+pub ruleset hop = (entry-is, move-up, move-down, kind-same, kind-other, detour-back, detour-there, detour-is, blocked-first, blocked-later, toward-up, toward-down, step-there, step-onward)
 
 -- ---- 15
 

@@ -1,5 +1,5 @@
-// One hop of a packet by value, in the order of 01's rule: `take` promises the step that the rule makes of it, and `lookup_number`
-// 15 where an entry that this step looks up is no neighbour. `net` is the header of `file`, which the judge accepts where the
+// One hop of a packet by value, in the order of 01's rule: `take` promises the step that the rule makes of it, `detour` where it goes
+// in place of a next hop that it cannot reach, and `lookup_number` 15 where an entry that this step looks up is no neighbour. `net` is the header of `file`, which the judge accepts where the
 // contract says `Judged`, and `tables` are read as they are, whatever they hold. Which hops are up is `linkstate`'s to say.
 use layout::home_topology;
 use linkstate::is_up;
@@ -16,9 +16,9 @@ ghost use lib.ListN.{getD};
 ghost use Rattle.rules.specs.File.{headerOf, setOf};
 ghost use Rattle.rules.specs.Isolation.{neighbours, home};
 ghost use Rattle.rules.specs.Basics.{need};
-ghost use Rattle.rules.specs.Forwarding.{entryPlace, moveOrDrop, changeTo, blocked, toward, alternateNumber, changeNumber};
+ghost use Rattle.rules.specs.Forwarding.{entryPlace, moveOrDrop, blocked, toward, alternateNumber, changeNumber};
 ghost use Rattle.linkstate.specs.Links.{Judged, on};
-ghost use Rattle.onehop.specs.Hop.{tablesAt, kindBy, onwardNumber, stepAt, lookupAt};
+ghost use Rattle.onehop.specs.Hop.{tablesAt, kindBy, detourBy, detourOf, onwardNumber, stepAt, lookupAt};
 
 // ---- homes and tables
 
@@ -46,6 +46,14 @@ pub fn entry(tables: &[u8], net: Network, i: usize, u: u8, t: u8) -> u8
 }
 
 // ---- one hop
+
+// Where a packet goes in place of its next hop, which it cannot reach: the neighbour taken, the topology changed to, the kind of the
+// change.
+pub struct Change {
+    pub next: u8,
+    pub topology: u8,
+    pub kind: Kind,
+}
 
 // To w in topology j, or dropped where w or the link to it is down.
 fn move_or_drop(
@@ -83,26 +91,38 @@ fn kind_by(destination: u8, v: u8) -> Kind
 }
 
 // v is the next hop in topology 0 and the hop to it is down; w is the next hop in v's home topology.
-fn change_to(
-    file: &[u8],
-    net: Network,
-    tables: &[u8],
-    failure: Failure,
-    p: Packet,
-    v: u8,
-    w: u8,
-) -> Step
-    requires { ⌜ Judged (now file) net ⌝ }
-    ensures { λ r. ⌜ r ≡ changeTo (setOf (now (file .entry))) (tablesAt (now (file .entry)) (now (tables .entry))) (on (now (file .entry)) failure) p v w ⌝ }
+fn detour_by(file: &[u8], net: Network, tables: &[u8], u: u8, t: u8, v: u8, w: u8) -> Change
+    requires { ⌜ net ≡ headerOf (now file) ⌝ }
+    ensures { λ r. ⌜ r ≡ detourBy (setOf (now (file .entry))) (tablesAt (now (file .entry)) (now (tables .entry))) u t v w ⌝ }
 {
     if w == v {
-        let other = entry(tables, net, net.k as usize + 1, p.place, v);
-        let back = home(file, net, p.place);
-        return move_or_drop(file, net, failure, p, other, back, Kind::D);
+        let other = entry(tables, net, net.k as usize + 1, u, v);
+        let back = home(file, net, u);
+        return Change {
+            next: other,
+            topology: back,
+            kind: Kind::D,
+        };
     }
     let there = home(file, net, v);
-    let kind = kind_by(p.destination, v);
-    move_or_drop(file, net, failure, p, w, there, kind)
+    let kind = kind_by(t, v);
+    Change {
+        next: w,
+        topology: there,
+        kind,
+    }
+}
+
+// What node u does with a packet for t in topology 0 where the hop to v, its next hop, is down.
+// Rules out: in kind D, the failed neighbour's home topology `its_topology_for_every_last_hop`; in kind D, a hop to the failed
+// neighbour again `the_alternate_not_looked_up`.
+pub fn detour(file: &[u8], net: Network, tables: &[u8], u: u8, t: u8, v: u8) -> Change
+    requires { ⌜ net ≡ headerOf (now file) ⌝ }
+    ensures { λ r. ⌜ r ≡ detourOf (setOf (now (file .entry))) (tablesAt (now (file .entry)) (now (tables .entry))) u t v ⌝ }
+{
+    let there = home(file, net, v);
+    let w = entry(tables, net, there as usize, u, t);
+    detour_by(file, net, tables, u, t, v, w)
 }
 
 // v is the next hop, and the hop to it is down.
@@ -111,9 +131,9 @@ fn blocked(file: &[u8], net: Network, tables: &[u8], failure: Failure, p: Packet
     ensures { λ r. ⌜ r ≡ blocked (setOf (now (file .entry))) (tablesAt (now (file .entry)) (now (tables .entry))) (on (now (file .entry)) failure) p v ⌝ }
 {
     if p.topology == 0 {
-        let there = home(file, net, v);
-        let w = entry(tables, net, there as usize, p.place, p.destination);
-        return change_to(file, net, tables, failure, p, v, w);
+        let d = detour(file, net, tables, p.place, p.destination, v);
+        let kind = d.kind;
+        return move_or_drop(file, net, failure, p, d.next, d.topology, kind);
     }
     Step::Dropped(p)
 }
@@ -136,8 +156,8 @@ fn toward(file: &[u8], net: Network, tables: &[u8], failure: Failure, p: Packet,
 }
 
 // One hop of the packet, by the tables as they are.
-// Rules out: in kind D, the failed neighbour's home topology `its_topology_for_every_last_hop`; in kind D, a hop to the failed
-// neighbour again `the_alternate_not_looked_up`.
+// Rules out: a change out of a backup topology `a_second_change_allowed`; in kind D, a hop to the failed neighbour again
+// `the_alternate_not_looked_up`.
 pub fn take(file: &[u8], net: Network, tables: &[u8], failure: Failure, p: Packet) -> Step
     requires { ⌜ Judged (now file) net ⌝ }
     ensures { λ r. ⌜ r ≡ stepAt (now (file .entry)) (now (tables .entry)) failure p ⌝ }

@@ -84,6 +84,9 @@ pub number-of : (old new : List ℕ) (at r x : ℕ) → Wrote old at (digits 19 
 unfolding decimal
 number-of old new at r x w = w
 
+pub short-number : (old new : List ℕ) (at r x d : ℕ) → d ≡ 48 + x → x < 10 → Wrote old at (d ∷ []) 1 r new → Wrote old at (decimal x) numberRoom r new
+short-number old new at r x d e h w = number-of old new at r x (one-digit old new at r 19 x d e h w)
+
 pub labelled-of : (old mid new label : List ℕ) (at p r x : ℕ) → length label ≤ labelRoom → Wrote old at label (length label) p mid → Wrote mid p (decimal x) numberRoom r new
     → Wrote old at (label ++ decimal x) labelledRoom r new
 labelled-of old mid new label at p r x h v w = wrote-then old mid new at p r (length label) numberRoom labelledRoom label (decimal x) v w (omega arith)
@@ -96,4 +99,4 @@ field-of old mid new at p r x v w = wrote-then old mid new at p r numberRoom 1 f
 pub one-writing : (old bytes new new′ : List ℕ) (at most r r′ : ℕ) → Wrote old at bytes most r new → Wrote old at bytes most r′ new′ → (r ≡ r′) × (new ≡ new′)
 one-writing old bytes new new′ at most r r′ v w = (v .on ∙ sym (w .on), v .is ∙ sym (w .is))
 
-pub ruleset texts = (copied-none, copied-more, copied-all, one-digit, last-digit, more-digits, number-of, labelled-of, field-of, letter-none, letter-t, letter-s, letter-d)
+pub ruleset texts = (copied-none, copied-more, copied-all, one-digit, last-digit, more-digits, number-of, short-number, labelled-of, field-of, letter-none, letter-t, letter-s, letter-d)

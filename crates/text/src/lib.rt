@@ -68,6 +68,10 @@ pub fn number(text: &mut [u8], at: usize, x: usize) -> usize
     requires { ⌜ at < 16777216 ⌝ }
     ensures { λ r. ⌜ Wrote (now (text .entry)) at (decimal x) numberRoom r (now (text .exit)) ⌝ }
 {
+    // most numbers of a report are short
+    if x < 10 {
+        return put(text, at, digit(x));
+    }
     digits(text, at, x, 19)
 }
 

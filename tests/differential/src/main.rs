@@ -1,4 +1,4 @@
-//! Compares the proved library with a model written from document 01 alone.
+//! Compares the proved library with a model written from document 01, as amended by request a of document 02, alone.
 
 mod answer;
 mod compare;

@@ -70,6 +70,19 @@ pub fn ringed_graph(random: &mut Random, n: usize, m: usize) -> Network {
     graph_with(random, n, m, pairs)
 }
 
+/// A ringed graph whose weights send packets far around: all links of the ring but its last weigh 1, all others wmax, which is n
+/// or more. Topology 0 then keeps to the light links however near the destination is, and extra goes far below zero.
+fn far_graph(random: &mut Random, n: usize, m: usize) -> Network {
+    let nodes = shuffled_nodes(random, n);
+    let light: Vec<(usize, usize)> = nodes.windows(2).map(|two| pair(two[0], two[1])).collect();
+    let mut ring = light.clone();
+    ring.push(pair(nodes[n - 1], nodes[0]));
+    let mut graph = graph_with(random, n, m, ring);
+    graph.wmax = random.pick(&[n as u16, 65_535]);
+    graph.weights = graph.ends.iter().map(|ends| if light.contains(ends) { 1 } else { graph.wmax }).collect();
+    graph
+}
+
 /// A connected graph, often with nodes whose removal disconnects it: a random tree, and m links in all.
 pub fn tree_graph(random: &mut Random, n: usize, m: usize) -> Network {
     let nodes = shuffled_nodes(random, n);
@@ -149,6 +162,13 @@ pub fn some_set(random: &mut Random, n: usize) -> Network {
     if keep_rules(&graph, &homes) || random.once_in(6) {
         return set_with(random, &graph, k, homes);
     }
+    let homes = fitting_homes(random, &graph, n);
+    set_with(random, &graph, n, homes)
+}
+
+/// A set of n nodes, m links and n topologies that meets the rules, where many paths of topology 0 are longer than the others.
+pub fn far_set(random: &mut Random, n: usize, m: usize) -> Network {
+    let graph = far_graph(random, n, m);
     let homes = fitting_homes(random, &graph, n);
     set_with(random, &graph, n, homes)
 }

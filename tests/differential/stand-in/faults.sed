@@ -16,7 +16,7 @@ s/2 \* self.n - 2$/2 * self.n - if crate::fault(16) { 3 } else { 2 }/
 s/&& k <= n$/\&\& (k <= n || crate::fault(17))/
 s/if !(1..=MOST_CAP).contains(&cap) {/if !(1..=MOST_CAP + crate::fault(18) as u8).contains(\&cap) {/
 s/let number = number as usize;/let number = if crate::fault(19) { number as u8 as usize } else { number as usize };/
-s/let extra = hops.saturating_sub(usual);/let extra = if crate::fault(20) { hops.abs_diff(usual) } else { hops.saturating_sub(usual) };/
+s/let extra = hops as i32 - usual as i32;/&\n    let extra = if crate::fault(20) { extra.max(0) } else { extra };/
 s/net.link_between(u, w).map(|_| w).ok_or((15, 0))/if crate::fault(21) \&\& w < net.n { return Ok(w); }\n    &/
 s/let row = if topology == 0 { /let row = if topology == 0 || crate::fault(22) { /
 s/connected(net, &backbone) && two_links_each(net, &backbone)/connected(net, \&backbone) \&\& (crate::fault(23) || two_links_each(net, \&backbone))/
@@ -33,3 +33,9 @@ s/weight >= 1 && weight <= net.wmax,/weight >= 1 \&\& (weight <= net.wmax || cra
 s/if !stays_connected(&net) {/if !stays_connected(\&net) \&\& !crate::fault(34) {/
 s/('D', net.homes\[u\], neighbour_at/('D', if crate::fault(35) { net.homes[v] } else { net.homes[u] }, neighbour_at/
 s/if ask.tables_room < net.tables_length() || ask.trail_room/if ask.tables_room < net.tables_length() - crate::fault(36) as usize * net.n * net.n || ask.trail_room/
+s/let extra = hops as i32 - usual as i32;/&\n    let extra = if crate::fault(37) { usual as i32 - hops as i32 } else { extra };/
+s/let extra = hops as i32 - usual as i32;/&\n    let extra = if crate::fault(38) { extra.abs() } else { extra };/
+s/let extra = hops as i32 - usual as i32;/&\n    let extra = if crate::fault(39) \&\& extra < -9 { -extra } else { extra };/
+s/let extra = hops as i32 - usual as i32;/&\n    let extra = if crate::fault(40) \&\& extra < -9 { extra % 10 } else { extra };/
+s/{kind} {topology} {next} {hops} {extra}\\n")/{kind} {topology} {next} {hops} {}\\n", if crate::fault(41) \&\& extra == 0 { "-0".to_string() } else { extra.to_string() })/
+s/if room < text.len() {/if room < text.len() - crate::fault(42) as usize * text.matches('-').count() {/

@@ -7,14 +7,8 @@ use Rattle.detections.proofs.detect.Tie as tie
 entry-requires : tie.Need-entry-requires
 entry-requires c κs = search needs
 
-take-requires : tie.Need-take-requires
-take-requires c κs = search seens
-
-packet-of-requires : tie.Need-packet-of-requires
-packet-of-requires c κs = search needs
-
-kind-of-requires : tie.Need-kind-of-requires
-kind-of-requires c κs = search needs
+detour-requires : tie.Need-detour-requires
+detour-requires c κs = search seens
 
 most-hops-requires : tie.Need-most-hops-requires
 most-hops-requires c κs = search needs
@@ -40,9 +34,7 @@ detect-spec =
     tie.close
     (tie.spec
     entry-requires
-    take-requires
-    packet-of-requires
-    kind-of-requires
+    detour-requires
     most-hops-requires
     sub-walk
     walk-requires

@@ -4,9 +4,12 @@ use mathlib.Core.Path.{_≡_, refl, sym, ap, subst, _∙_}
 use mathlib.Core.Bool.{Bool, true, false, true≢false}
 use mathlib.Core.List.{List, [], _∷_, _++_, append-assoc}
 use Prim.Native.Nat.{ℕ, zero, suc, _+_, _-_, _*_, _≤_, _<_}
+use native.Mathlib.Numerals.{add-one}
 use native.Mathlib.Omega.{arith}
-use lib.IntN.{pos, -ℤ-+ℤ-cancel}
+use lib.Dec.{ltb→lt}
+use lib.IntN.{ℤ, pos, negsuc, natAbs, -ℤ-+ℤ-cancel}
 use lib.ListN.{length}
+use lib.Signed.{_≤ℤ_, _<ℤ_}
 use borrow.Author.Tests.{eq-eqb}
 use Rattle.rules.specs.declared.Packet.{Packet}
 use Rattle.rules.specs.declared.Kind.{Kind}
@@ -185,6 +188,18 @@ ends-in : (S : Set) (u t : ℕ) → detectionLine S u t ≡ before S u t ++ (sig
 unfolding detectionLine
 ends-in S u t = simp append-assoc
 
+-- ---- its sign
+
+minus-sign : (z : ℤ) → z <ℤ pos 0 → signed z ≡ 45 ∷ decimal (natAbs z)
+unfolding signed
+minus-sign (pos x) l = absurd (omega (arith, ltb→lt x 0 (l .lt)))
+minus-sign (negsuc x) l = ap (λ (y : ℕ). 45 ∷ decimal y) (add-one x)
+
+no-sign : (z : ℤ) → pos 0 ≤ℤ z → signed z ≡ decimal (natAbs z)
+unfolding signed
+no-sign (pos x) l = refl
+no-sign (negsuc x) l = absurd (l .le)
+
 pub extras-are : ExtrasAre
 unfolding extraHops
 extras-are S A u t lu lt ne =
@@ -193,6 +208,8 @@ extras-are S A u t lu lt ne =
     let kind = last-in S A u t lu lt ne (detection S u t) refl (detection-changes S A u t lu lt ne) in
     record {
       field = (before S u t, ends-in S u t);
+      below-zero = minus-sign (extraHops S u t);
+      not-below = no-sign (extraHops S u t);
       sum = -ℤ-+ℤ-cancel (pos b) (pos p);
       least = minus-least b p (S .net .n - 2) (omega (arith, backup-some S A u t lu lt ne, plain-few S A u t lu lt ne));
       most = minus-most b p (S .net .n - 2) (omega (arith, plain-some S A u t lu lt ne, backup-few S A u t lu lt ne));

@@ -5,7 +5,7 @@ use mathlib.Core.Logic.{_⊎_}
 use mathlib.Core.List.{List, _∷_, _++_}
 use Prim.Native.Nat.{ℕ, suc, _-_, _*_, _/_, _%_, _≤_, _<_}
 use lib.Dec.{ltb}
-use lib.IntN.{pos, negℤ, _+ℤ_}
+use lib.IntN.{pos, negℤ, natAbs, _+ℤ_}
 use lib.ListN.{length}
 use lib.Signed.{_≤ℤ_, _<ℤ_}
 use Rattle.rules.specs.declared.Kind.the-variants as change
@@ -16,7 +16,7 @@ use Rattle.rules.specs.Basics.{if_then_else_, flat}
 use Rattle.rules.specs.Limits.{longest}
 use Rattle.rules.specs.File.{Set}
 use Rattle.rules.specs.Forwarding.{link, packet, Run, runUnder}
-use Rattle.rules.specs.Report.{signed, newline, kindOf, detectedLink, detection, backupHops, plainHops, extraHops, detectionLine, detectionLines, reportText}
+use Rattle.rules.specs.Report.{decimal, signed, newline, kindOf, detectedLink, detection, backupHops, plainHops, extraHops, detectionLine, detectionLines, reportText}
 use Rattle.rules.specs.Sets.{at, AcceptedSet, AcceptedFile}
 use Rattle.rules.specs.Demands.Form.{Front}
 
@@ -93,7 +93,10 @@ Covered = (S : Set) → AcceptedSet S → Coverage S
 pub record ExtraIs (S : Set) (u t : ℕ) : Type 0 where
   -- the line's last field, signed
   pub field : (fields : List ℕ) × (detectionLine S u t ≡ fields ++ (signed (extraHops S u t) ++ newline))
-  -- with the hops in topology 0 they make the backup hops
+  -- "printed with a minus sign where it is below zero"
+  pub below-zero : extraHops S u t <ℤ pos 0 → signed (extraHops S u t) ≡ 45 ∷ decimal (natAbs (extraHops S u t))
+  pub not-below : pos 0 ≤ℤ extraHops S u t → signed (extraHops S u t) ≡ decimal (natAbs (extraHops S u t))
+  -- "backup hops minus hops in topology 0": with these they make the backup hops
   pub sum : extraHops S u t +ℤ pos (plainHops S u t) ≡ pos (backupHops S u t)
   -- they lie between -(n - 2) and n - 2
   pub least : negℤ (pos (S .net .n - 2)) ≤ℤ extraHops S u t

@@ -7,7 +7,7 @@ use crate::make::{careless_set, some_set};
 use crate::model::file::file_of;
 use crate::model::forward::Stand;
 use crate::model::report::LONGEST_REPORT;
-use crate::model::samples::{full_four, graph, ring, set, triangle};
+use crate::model::samples::{full_four, heavy_ring, ring, set, triangle};
 use crate::model::{Network, MOST_NODES};
 use crate::random::Random;
 
@@ -94,12 +94,11 @@ pub fn walks(comparer: &mut Comparer, random: &mut Random, plan: &Plan) {
 }
 
 /// Rings with one heavy link: a packet goes all the way around to find the last link down, and all the way back. Its run has
-/// 2n - 3 hops, the most there are.
+/// 2n - 3 hops, the most there are. Extra is n - 2 where the next hop is the destination and -(n - 2) from one end of the heavy
+/// link to the other, the most and the least there are.
 pub fn longest_trails(comparer: &mut Comparer, random: &mut Random, plan: &Plan) {
     for n in 3..=MOST_NODES {
-        let mut links: Vec<(usize, usize, u16)> = (1..n).map(|node| (node - 1, node, 1)).collect();
-        links.insert(1, (0, n - 1, 40));
-        let graph = graph(n, 40, &links);
+        let graph = heavy_ring(n, 40);
         let file = comparer.build(&file_of(&graph), n as u8, 9_192).expect("a ring has a set of n topologies");
         let failed = graph.link_between(n - 2, n - 1).expect("the ring has this link") as u16;
         let ask = RunAsk { source: 0, destination: n as u8 - 1, failure: 1, failed };

@@ -7,7 +7,7 @@ use crate::make::{ringed_graph, some_links, some_set};
 use crate::model::builder::build;
 use crate::model::file::{file_of, lists_needed, ListRooms, Lists};
 use crate::model::report::{report, LONGEST_REPORT};
-use crate::model::samples::{full_four, ring, set, triangle};
+use crate::model::samples::{full_four, heavy_ring, ring, set, triangle};
 use crate::model::{Network, MOST_NODES};
 use crate::random::Random;
 
@@ -22,6 +22,9 @@ pub fn short_rooms(comparer: &mut Comparer, random: &mut Random, plan: &Plan) {
     for file in [set(&triangle(), &[1, 2, 3]), set(&ring(), &[1, 2, 3, 4]), set(&full_four(), &[1, 1, 2, 2])] {
         set_rooms(comparer, random, &file);
     }
+    // Each minus sign and each second digit of the report asks for its byte of room.
+    let homes: Vec<usize> = (1..=16).collect();
+    set_rooms(comparer, random, &set(&heavy_ring(16, 16), &homes));
     for graph in [triangle(), ring(), full_four()] {
         graph_rooms(comparer, &graph);
     }

@@ -3,7 +3,8 @@
 use super::{every_entry, forwarding, Plan, AMPLE_LISTS};
 use crate::compare::Comparer;
 use crate::make::{
-    careless_set, fitting_homes, loose_graph, most_links, ringed_graph, set_with, some_links, some_set, tree_graph,
+    careless_set, far_set, fitting_homes, loose_graph, most_links, ringed_graph, set_with, some_links, some_set,
+    tree_graph,
 };
 use crate::model::file::{file_of, Lists};
 use crate::model::report::LONGEST_REPORT;
@@ -56,7 +57,8 @@ pub fn examples(comparer: &mut Comparer, random: &mut Random, plan: &Plan) {
     every_entry(comparer, random, &file);
 }
 
-/// Sets that the builder did not make: homes by chance, rows unlike topology 0, topologies nobody has as home.
+/// Sets that the builder did not make: homes by chance, rows unlike topology 0, topologies nobody has as home. In the last ones
+/// topology 0 goes far around, so that extra is often below zero.
 pub fn random_sets(comparer: &mut Comparer, random: &mut Random, plan: &Plan) {
     for _ in 0..4 * plan.rounds {
         for n in 3..=MOST_NODES {
@@ -68,6 +70,13 @@ pub fn random_sets(comparer: &mut Comparer, random: &mut Random, plan: &Plan) {
         let n = random.between(3, 8);
         let file = file_of(&some_set(random, n));
         whole(comparer, &file);
+    }
+    for _ in 0..plan.rounds {
+        for n in 3..=MOST_NODES {
+            let m = some_links(random, n);
+            let file = file_of(&far_set(random, n, m));
+            whole(comparer, &file);
+        }
     }
 }
 
@@ -154,4 +163,7 @@ pub fn largest(comparer: &mut Comparer, random: &mut Random, plan: &Plan) {
             forwarding::every_run(comparer, random, &file, plan.run_work);
         }
     }
+    // Extra of two digits below zero at the largest size.
+    let far = far_set(random, MOST_NODES, MOST_LINKS);
+    whole(comparer, &file_of(&far));
 }

@@ -1,4 +1,4 @@
-//! 01's examples, P1 to P12, the unmarked ones, and the triangle's report byte for byte.
+//! 01's examples, P1 to P12, the unmarked ones, and the triangle's report byte for byte, as 02's request a amends it.
 
 use super::builder::build;
 use super::file::{file_of, judge, read, write, ListRooms, Lists};
@@ -106,12 +106,13 @@ fn the_triangles_file_and_report() {
     let file = set(&triangle(), &[1, 2, 3]);
     assert_eq!(file.len(), 65);
     assert_eq!(judge(&file).unwrap().rows, [[0, 0, 1], [0, 3, 0], [1, 0, 0]]);
+    // 02, request a: the two T lines end in -1, every other line is 01's.
     let expected = "node via dest kind topology next hops extra\n\
         0 1 1 D 1 2 2 1\n\
-        0 1 2 T 2 2 1 0\n\
+        0 1 2 T 2 2 1 -1\n\
         1 0 0 D 2 2 2 1\n\
         1 2 2 D 2 0 2 1\n\
-        2 1 0 T 2 0 1 0\n\
+        2 1 0 T 2 0 1 -1\n\
         2 1 1 D 3 0 2 1\n\
         detections 6\n";
     assert_eq!(report(&file, LONGEST_REPORT).unwrap(), expected);

@@ -1,8 +1,9 @@
-//! Document 01 in plain Rust: an implementation made from its text alone, for comparison with the proved library.
+//! Document 01, as amended by request a of document 02, in plain Rust: an implementation made from their text alone, for
+//! comparison with the proved library.
 //!
 //! Nothing here is fast or clever. Every entry is a pure function: it takes what the caller lends (room only as a length) and
-//! returns either the values and bytes that the entry gives, or the refusal. Where 01 leaves a point open, a comment that
-//! begins with "Reading" says what was decided and why.
+//! returns either the values and bytes that the entry gives, or the refusal. Where the documents leave a point open, a comment
+//! that begins with "Reading" says what was decided and why.
 
 pub mod builder;
 pub mod distance;
@@ -14,6 +15,8 @@ pub mod samples;
 
 #[cfg(test)]
 mod examples;
+#[cfg(test)]
+mod extra;
 #[cfg(test)]
 mod refusals;
 

@@ -1,4 +1,4 @@
-//! The networks that 01's examples name.
+//! The networks that 01's examples name, and the ring with one heavy link.
 
 use super::builder::filled;
 use super::file::file_of;
@@ -28,6 +28,16 @@ pub fn ring() -> Network {
 
 pub fn full_four() -> Network {
     graph(4, 1, &[(0, 1, 1), (0, 2, 1), (0, 3, 1), (1, 2, 1), (1, 3, 1), (2, 3, 1)])
+}
+
+/// A ring of n nodes where link 0 to n - 1 weighs `heavy` and every other link 1. With n = 3 and 3 it is the triangle.
+///
+/// Where `heavy` is n or more, topology 0 never uses that link: its paths go by node numbers, n - 1 hops from one end to the
+/// other, and every backup path goes over the heavy link.
+pub fn heavy_ring(n: usize, heavy: u16) -> Network {
+    let mut links: Vec<(usize, usize, u16)> = (1..n).map(|node| (node - 1, node, 1)).collect();
+    links.insert(1, (0, n - 1, heavy));
+    graph(n, heavy, &links)
 }
 
 /// Two triangles that share node 0.

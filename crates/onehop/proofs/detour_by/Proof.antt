@@ -1,7 +1,7 @@
 use Rattle.onehop.proofs.Hops.{hop}
 use borrow.Author.Needs.{needs}
-use Rattle.onehop.proofs.change_to.Statement.{statement}
-use Rattle.onehop.proofs.change_to.Tie as tie
+use Rattle.onehop.proofs.detour_by.Statement.{statement}
+use Rattle.onehop.proofs.detour_by.Tie as tie
 
 cast-entry : tie.Need-cast-entry
 cast-entry c = search needs
@@ -15,9 +15,6 @@ entry-requires c κs = search needs
 home-requires : tie.Need-home-requires
 home-requires c κs = search needs
 
-move-or-drop-requires : tie.Need-move-or-drop-requires
-move-or-drop-requires c κs = search needs
-
 returns : tie.Need-returns
 returns c = search hop
 
@@ -27,23 +24,18 @@ home-requires-2 c κs = search needs
 kind-by-requires : tie.Need-kind-by-requires
 kind-by-requires c κs = search needs
 
-move-or-drop-requires-2 : tie.Need-move-or-drop-requires-2
-move-or-drop-requires-2 c κs = search needs
-
 returns-2 : tie.Need-returns-2
 returns-2 c = search hop
 
-pub change-to-spec : {M : Type 1} → statement M
-change-to-spec =
+pub detour-by-spec : {M : Type 1} → statement M
+detour-by-spec =
     tie.close
     (tie.spec
     cast-entry
     add-entry
     entry-requires
     home-requires
-    move-or-drop-requires
     returns
     home-requires-2
     kind-by-requires
-    move-or-drop-requires-2
     returns-2)
