@@ -1,13 +1,12 @@
 // A text that was made in room of its own, laid into room of any length that is lent. `lay_text` promises the text at the front of the
-// room and its length, or 14 and the room as it came where that is too short; a refusal that was made stays as it is, and so does the
-// room.
+// room and its length, or 14 and the room as it came where that is too short.
 use needs::need_room;
 use rules::LengthAnswer;
 use rules::Network;
 use rules::Verdict;
 ghost use Prim.Native.Nat.{_≤_};
 ghost use lib.ListN.{length, take};
-ghost use Rattle.anyroom.specs.Laying.{Inside, Copied, Laid};
+ghost use Rattle.anyroom.specs.Laying.{Copied};
 
 // The first so many bytes of what was made, in the room that is lent; 14 where that is too short.
 fn copied(made: &[u8], long: usize, text: &mut [u8]) -> LengthAnswer
@@ -21,30 +20,16 @@ fn copied(made: &[u8], long: usize, text: &mut [u8]) -> LengthAnswer
     }
 }
 
-// The report that was made, in the room that is lent.
-fn lay(answer: LengthAnswer, made: &[u8], text: &mut [u8]) -> LengthAnswer
-    requires { ⌜ Inside answer (now made) ⌝ }
-    ensures { λ r. ⌜ Laid answer (now (made .entry)) (now (text .entry)) r (now (text .exit)) ⌝ }
-{
-    match answer {
-        LengthAnswer::Refused {
-            number: _,
-            place: _,
-        } => answer,
-        LengthAnswer::Length(long) => copied(made, long, text),
-    }
-}
-
 // The same of a text that has its own array.
 // Rules out: bytes told of a text that the lent room is too short for `another_room_measured`; 14 where that room is longer than the
 // text `more_room_than_the_text_refused`.
 pub fn lay_text(
-    answer: LengthAnswer,
     made: &[u8; Network::LONGEST_REPORT],
+    long: usize,
     text: &mut [u8],
 ) -> LengthAnswer
-    requires { ⌜ Inside answer (now made) ⌝ }
-    ensures { λ r. ⌜ Laid answer (now (made .entry)) (now (text .entry)) r (now (text .exit)) ⌝ }
+    requires { ⌜ long ≤ length (now made) ⌝ }
+    ensures { λ r. ⌜ Copied (take long (now (made .entry))) (now (text .entry)) r (now (text .exit)) ⌝ }
 {
-    lay(answer, made, text)
+    copied(made, long, text)
 }

@@ -1,15 +1,12 @@
 // The entries for C and Rust, by numbers and byte slices (include/burnishpeg.h). Each function promises what its entry does, with
 // the answer packed into one word: a refusal's number and place, or the values of an accepted call. Buffers that one call is
-// given must not overlap: that is the one thing that C has to see to. The report is made in room of its own and laid into the room
-// that is lent (`anyroom`).
+// given must not overlap: that is the one thing that C has to see to.
 use answerwords::failure_of;
 use answerwords::length_word;
 use answerwords::read_word;
 use answerwords::run_word;
 use answerwords::step_word;
 use answerwords::verdict_word;
-use anyroom::lay_text;
-use report::report;
 use rules::Network;
 use rules::Packet;
 ghost use mathlib.Core.List.{[]};
@@ -133,7 +130,7 @@ pub extern "C" fn burnishpeg_write(
     length_word(writer::write(net, a, b, weights, homes, rows, out))
 }
 
-// ---- the report into any room
+// ---- the report
 
 // Rules out: 14 where `text` is exactly as long as the report `needs/just_enough_room_refused`; a refusal with bit 63 clear
 // `answerwords/a_refusal_that_looks_accepted`; also `answerwords/the_number_over_the_place`, `anyroom/another_room_measured`,
@@ -142,7 +139,5 @@ pub extern "C" fn burnishpeg_write(
 pub extern "C" fn burnishpeg_report(file: &[u8], text: &mut [u8]) -> u64
     ensures { λ r. ⌜ Answers reportEntry byLength (now (file .entry)) (now (text .entry)) r (now (text .exit)) ⌝ }
 {
-    let mut made = rooms::report();
-    let answer = report(file, &mut made);
-    length_word(lay_text(answer, &made, text))
+    length_word(report::report(file, text))
 }

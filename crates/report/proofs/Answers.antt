@@ -1,10 +1,10 @@
 -- From the answer of the entry `tables` to that of `report`: the room for the longest tables is always enough, so both refuse the same files.
-use mathlib.Core.Path.{_≡_, refl, sym, ap, _∙_}
+use mathlib.Core.Path.{_≡_, refl, sym, ap, ap₂, subst, _∙_}
 use mathlib.Core.List.{List, [], _∷_, _++_}
 use Prim.Native.Nat.{ℕ, _+_, _≤_}
 use native.Mathlib.Nat.{zero-add}
 use native.Mathlib.Omega.{arith}
-use lib.ListN.{length}
+use lib.ListN.{length, take}
 use Rattle.rules.specs.declared.Network.{Network}
 use Rattle.rules.specs.declared.Verdict.{Verdict}
 use Rattle.rules.specs.declared.Verdict.the-variants.{Accepted, Refused}
@@ -22,15 +22,18 @@ use Rattle.rules.specs.Entries.Tables.{tablesEntry}
 use Rattle.rules.specs.Entries.Report.{reportEntry}
 use Rattle.rules.specs.Sets.{WithinLimits}
 use Rattle.rules.proofs.Ground.Choices.{then-ok, then-no, then-first, then-second}
-use Rattle.rules.proofs.Ground.Rows.{length-laid}
+use Rattle.rules.proofs.Ground.Rows.{length-laid, laid-front}
 use Rattle.rules.proofs.File.SetOfBytes.{net-held}
 use Rattle.rules.proofs.File.Checked.{checked-set}
 use Rattle.rules.proofs.Entries.Answering.{tells-accepted}
 use Rattle.rules.proofs.Entries.Determined.{tells-refused}
 use Rattle.rules.proofs.Entries.Report.{report-fits}
+use Rattle.rules.proofs.Report.TextLength.{report-fits as text-fits}
 use Rattle.rules.proofs.Entries.Values.{longest-tables}
 use Rattle.rules.proofs.Refusals.Needs.{room-ok, room-long}
+use Rattle.rooms.specs.Rooms.{Room}
 use Rattle.rooms.proofs.Longest as figures
+use Rattle.anyroom.specs.Laying.{Copied}
 use Rattle.text.specs.Text.{Wrote, labelledRoom}
 use Rattle.detections.specs.Detection.{Ready}
 use Rattle.lines.specs.Lines.{textRoom}
@@ -87,24 +90,56 @@ module _ (s : List ℕ) where
         most = rw (h, ← net-held s) (A .nodes .1);
       }
 
-  pub reported : (answer : LengthAnswer) (tables old new : List ℕ) (bytes r : ℕ) → Made s answer tables → answer ≡ long.Length bytes → Wrote old 0 (reportText (setOf s)) textRoom r new → longest .report ≡ length old
-      → Promise reportEntry s old (long.Length r) new
-  unfolding reportEntry lengthTells tell onAccept
-  reported answer tables old new bytes r M d w e =
-      let c = made-ready answer tables bytes (headerOf s) M d refl .accepted in
-      let v : andThen (check s) (needRoom (length (reportText (setOf s))) old) ≡ Accepted = report-verdict old e ∙ c in
+  -- ---- its text into lent room
+
+  fits : check s ≡ Accepted → length (reportText (setOf s)) ≤ reportRoom (headerOf s)
+  fits c = subst (λ (h : Network). length (reportText (setOf s)) ≤ reportRoom h) (net-held s) (text-fits (setOf s) (checked-set s c))
+
+  -- a text that was written where there is room for it
+  wrote-copied : (old new : List ℕ) (r : ℕ) → length (reportText (setOf s)) ≤ length old → Wrote old 0 (reportText (setOf s)) textRoom r new → Copied (reportText (setOf s)) old (long.Length r) new
+  unfolding lengthTells tell onAccept
+  wrote-copied old new r l w =
+      let v = room-ok (length (reportText (setOf s))) old l in
       record {
         answer = rw v (ap (λ (x : ℕ). accepted (x ∷ [])) (w .on ∙ zero-add (length (reportText (setOf s)))));
-        lent = rw v (wrote-laid old new (reportText (setOf s)) textRoom r w (omega (arith, report-fits (setOf s) (checked-set s c))));
+        lent = rw v (wrote-laid old new (reportText (setOf s)) textRoom r w l);
       }
+
+  module _ (net : Network) (tables : List ℕ) (R : Ready s net tables) where
+    pub written-whole : (old new : List ℕ) (r enough : ℕ) → enough ≡ reportRoom net → enough ≤ length old → Wrote old 0 (reportText (setOf s)) textRoom r new → Copied (reportText (setOf s)) old (long.Length r) new
+    written-whole old new r enough e l w =
+        let h : reportRoom net ≡ reportRoom (headerOf s) = ap reportRoom (R .header) in
+        wrote-copied old new r (omega (arith, fits (R .accepted))) w
+
+    module _ (zeros own : List ℕ) (r : ℕ) (room : Room (longest .report) zeros) (w : Wrote zeros 0 (reportText (setOf s)) textRoom r own) where
+      whole : length (reportText (setOf s)) ≤ length zeros
+      whole = omega (arith, room .long, report-fits (setOf s) (checked-set s (R .accepted)))
+
+      pub apart-inside : r ≤ length own
+      apart-inside = omega (arith, whole, w .on, w .long)
+
+      front : take r own ≡ reportText (setOf s)
+      front =
+          ap₂ take (w .on ∙ zero-add (length (reportText (setOf s)))) (wrote-laid zeros own (reportText (setOf s)) textRoom r w whole)
+          ∙ laid-front (reportText (setOf s)) zeros
+
+      pub apart-copied : (text after : List ℕ) (x : LengthAnswer) → Copied (take r own) text x after → Copied (reportText (setOf s)) text x after
+      apart-copied text after x C = subst (λ (l : List ℕ). Copied l text x after) front C
+
+  pub reported : (answer x : LengthAnswer) (tables old new : List ℕ) (bytes : ℕ) → Made s answer tables → answer ≡ long.Length bytes → Copied (reportText (setOf s)) old x new → Promise reportEntry s old x new
+  unfolding reportEntry
+  reported answer x tables old new bytes M d C =
+      let c = made-ready answer tables bytes (headerOf s) M d refl .accepted in
+      let v = then-ok (check s) (needRoom (length (reportText (setOf s))) old) c in
+      record { answer = C .answer ∙ rw v; lent = C .lent ∙ rw v }
 
   -- ---- a refused file
 
-  pub made-refused : (answer : LengthAnswer) (tables old : List ℕ) (number place : ℕ) → Made s answer tables → answer ≡ long.Refused number place → longest .report ≡ length old → Promise reportEntry s old (long.Refused number place) old
+  pub made-refused : (answer : LengthAnswer) (tables old : List ℕ) (number place : ℕ) → Made s answer tables → answer ≡ long.Refused number place → Promise reportEntry s old (long.Refused number place) old
   unfolding tablesEntry reportEntry lengthTells tell onAccept
-  made-refused answer tables old number place M e l =
+  made-refused answer tables old number place M e =
       let t : andThen (check s) (needRoom (tablesLength (headerOf s)) (M .before)) ≡ Refused number place = tells-refused _ (tablesLength (headerOf s) ∷ []) number place (sym (ap lengthTells e) ∙ M .kept .answer) in
-      let v : andThen (check s) (needRoom (length (reportText (setOf s))) old) ≡ Refused number place = report-verdict old l ∙ sym (tables-verdict (M .before) (M .long)) ∙ t in
+      let v = then-no (check s) (needRoom (length (reportText (setOf s))) old) number place (sym (tables-verdict (M .before) (M .long)) ∙ t) in
       record { answer = rw v; lent = rw v }
 
 -- ---- what the program prints
@@ -169,4 +204,4 @@ says-refusal answer old new number place r e w = line number place e w
 pub one-print : (s old new new′ : List ℕ) (r r′ : ℕ) → Printed s old r new → Printed s old r′ new′ → (r ≡ r′) × (new ≡ new′)
 one-print s old new new′ r r′ p q = (p .long ∙ sym (q .long), p .is ∙ sym (q .is))
 
-pub ruleset answers = (array-long, made-ready, reported, made-refused, refusal-of, printed-of, says-report, says-refusal)
+pub ruleset answers = (array-long, made-ready, written-whole, apart-inside, apart-copied, reported, made-refused, refusal-of, printed-of, says-report, says-refusal)

@@ -1,6 +1,7 @@
 // The report on a set: what each router does, and how far its packets go, where the link to its next hop is down; one line for each
 // node and each other destination, so that both ends of every link stand in it. The entry `report` takes every file; its promise
 // fixes the text, byte for byte, or the refusal. `print` promises the text that the report program prints, the refusal's line too.
+use anyroom::lay_text;
 use layout::header;
 use lines::write;
 use rules::LengthAnswer;
@@ -8,31 +9,55 @@ use rules::Network;
 use tables::tables;
 use text::labelled;
 use text::put;
-ghost use mathlib.Core.Path.{_≡_};
-ghost use lib.ListN.{length};
-ghost use Rattle.rules.specs.Limits.{longest};
-ghost use Rattle.rules.specs.Report.{refusalLine};
+ghost use Rattle.rules.specs.File.{setOf};
+ghost use Rattle.rules.specs.Report.{reportText, refusalLine};
 ghost use Rattle.rules.specs.Entries.Entry.{Promise};
 ghost use Rattle.rules.specs.Entries.Report.{reportEntry};
 ghost use Rattle.text.specs.Text.{Wrote};
+ghost use Rattle.detections.specs.Detection.{Ready};
+ghost use Rattle.anyroom.specs.Laying.{Copied};
 ghost use Rattle.report.specs.Answer.{Made, Says, Printed, refusalRoom};
+
+// ---- the text into lent room
+
+// The text, made in room of its own and laid into the room that is lent.
+fn apart(file: &[u8], net: Network, tables: &[u8], text: &mut [u8]) -> LengthAnswer
+    requires { ⌜ Ready (now file) net (now tables) ⌝ }
+    ensures { λ r. ⌜ Copied (reportText (setOf (now (file .entry)))) (now (text .entry)) r (now (text .exit)) ⌝ }
+{
+    let mut made = rooms::report();
+    let long = write(file, net, tables, &mut made);
+    lay_text(&made, long, text)
+}
+
+// The text, or 14. Where every report on so many nodes fits it is written straight into the lent room: to clear room for the longest
+// costs more than a small report.
+fn text_into(file: &[u8], net: Network, tables: &[u8], text: &mut [u8]) -> LengthAnswer
+    requires { ⌜ Ready (now file) net (now tables) ⌝ }
+    ensures { λ r. ⌜ Copied (reportText (setOf (now (file .entry)))) (now (text .entry)) r (now (text .exit)) ⌝ }
+{
+    let enough = net.report_room();
+    if enough <= text.len() {
+        return LengthAnswer::Length(write(file, net, tables, text));
+    }
+    apart(file, net, tables, text)
+}
 
 // The report by the tables that were made, or the refusal that came in their place.
 fn report_by(made: LengthAnswer, file: &[u8], tables: &[u8], text: &mut [u8]) -> LengthAnswer
     requires { ⌜ Made (now file) made (now tables) ⌝ }
-    requires { ⌜ longest .report ≡ length (now text) ⌝ }
     ensures { λ r. ⌜ Promise reportEntry (now (file .entry)) (now (text .entry)) r (now (text .exit)) ⌝ }
 {
     match made {
-        LengthAnswer::Length(_) => LengthAnswer::Length(write(file, header(file), tables, text)),
+        LengthAnswer::Length(_) => text_into(file, header(file), tables, text),
         LengthAnswer::Refused { number, place } => LengthAnswer::Refused { number, place },
     }
 }
 
-// The report on a file's set, from its first byte on; or the refusal, and every byte of the text as it came.
+// The report on a file's set, from the text's first byte on; or the refusal, and every byte of the text as it came.
 // Rules out: no lines for destinations below the node's own number `lines/lower_end_only`; hops counted with nothing down
 // `detections/hops_with_nothing_down`.
-pub fn report(file: &[u8], text: &mut [u8; Network::LONGEST_REPORT]) -> LengthAnswer
+pub fn report(file: &[u8], text: &mut [u8]) -> LengthAnswer
     ensures { λ r. ⌜ Promise reportEntry (now (file .entry)) (now (text .entry)) r (now (text .exit)) ⌝ }
 {
     let mut room = rooms::tables();

@@ -3,7 +3,7 @@
 // those definitions; this one promises that its sizes are the ones that the definitions give.
 ghost use mathlib.Core.Path.{_≡_};
 ghost use Prim.Native.Nat.{_*_, _-_, _≤_, _<_};
-ghost use Rattle.rules.specs.Limits.{restrictedWeight, rowWeights, rowLength, homeRecords, fileLength, tablesLength, mostHops, trailRoom, longest};
+ghost use Rattle.rules.specs.Limits.{restrictedWeight, rowWeights, rowLength, homeRecords, fileLength, tablesLength, mostHops, trailRoom, reportRoom, longest};
 ghost use Rattle.rules.specs.Forwarding.{entryPlace};
 
 // The counts of a file's header, at the file's widths.
@@ -210,6 +210,16 @@ impl Network {
     {
         let n = self.n as usize;
         times(n, n - 1)
+    }
+
+    // The room that every report on so many nodes fits.
+    // Rules out: 23 bytes a line, without the minus sign; n × n lines.
+    pub fn report_room(self) -> usize
+        requires { ⌜ (3 ≤ self .n) × (self .n ≤ 32) ⌝ }
+        ensures { λ r. ⌜ r ≡ reportRoom self ⌝ }
+    {
+        let lines = times(self.detections(), Network::REPORT_LINE);
+        Network::REPORT_HEADER + lines + Network::REPORT_LAST
     }
 
     // The weight of a restricted link: 2 × m × wmax.

@@ -4,7 +4,7 @@ use Prim.Native.Nat.{ℕ, _+_, _-_, _*_, _≤_, _<_}
 use native.Mathlib.Nat.{mul-le-mul}
 use native.Mathlib.Omega.{arith}
 use Rattle.rules.specs.declared.Network.{Network}
-use Rattle.rules.specs.Limits.{restrictedWeight, rowLength, rowWeights, homeRecords, linkPlace, homePlace, rowPlace, fileLength, tablesLength, mostHops, trailRoom}
+use Rattle.rules.specs.Limits.{restrictedWeight, rowLength, rowWeights, homeRecords, linkPlace, homePlace, rowPlace, fileLength, tablesLength, mostHops, trailRoom, reportHeader, reportLine, reportLast, reportRoom}
 use Rattle.rules.specs.Forwarding.{entryPlace}
 
 -- ---- products
@@ -28,6 +28,11 @@ square-low n r e p = rw e (byte-square n p)
 pub weight-fits : (m wmax : ℕ) → m ≤ 128 → wmax < 65536 → 2 * m * wmax < 4294967296
 weight-fits m wmax p q =
     let h : 2 * m * wmax ≤ 256 * 65535 = mul-le-mul {n₂ = 256} {m₂ = 65535} (omega arith) (omega arith) in
+    omega arith
+
+pub pairs-few : (n r : ℕ) → r ≡ n * (n - 1) → n ≤ 32 → r < 1048576
+pairs-few n r e p =
+    let h : n * (n - 1) ≤ 32 * 31 = mul-le-mul {n₂ = 32} {m₂ = 31} p (omega arith) in
     omega arith
 
 -- ---- sizes
@@ -64,8 +69,12 @@ pub trail-some : (h : Network) → 2 ≤ 2 * h .n → 2 * h .n - 2 ≡ trailRoom
 unfolding trailRoom
 trail-some h l = refl
 
+pub room-long : (h : Network) (lines pairs : ℕ) → lines ≡ pairs * reportLine → pairs ≡ h .n * (h .n - 1) → reportHeader + lines + reportLast ≡ reportRoom h
+unfolding reportRoom
+room-long h lines pairs e d = rw (e, d)
+
 pub hops-most : (h : Network) → 2 * h .n - 3 ≡ mostHops h
 unfolding mostHops
 hops-most h = refl
 
-pub ruleset sizes = (small-product, product-fits, byte-square, square-low, weight-fits, restricted-is, file-long, row-long, entries-are, tables-long, entry-at, trail-none, trail-some, hops-most)
+pub ruleset sizes = (small-product, product-fits, byte-square, square-low, weight-fits, restricted-is, file-long, row-long, entries-are, tables-long, entry-at, trail-none, trail-some, pairs-few, room-long, hops-most)
