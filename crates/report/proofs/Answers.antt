@@ -31,7 +31,7 @@ use Rattle.rules.proofs.Entries.Report.{report-fits}
 use Rattle.rules.proofs.Report.TextLength.{report-fits as text-fits}
 use Rattle.rules.proofs.Entries.Values.{longest-tables}
 use Rattle.rules.proofs.Refusals.Needs.{room-ok, room-long}
-use Rattle.rooms.specs.Rooms.{Room}
+use Rattle.rooms.specs.Rooms.{fewTables, Room}
 use Rattle.rooms.proofs.Longest as figures
 use Rattle.anyroom.specs.Laying.{Copied}
 use Rattle.text.specs.Text.{Wrote, labelledRoom}
@@ -60,14 +60,25 @@ module _ (s : List ℕ) where
       go Accepted c = then-ok (check s) (needRoom long lent) c ∙ room-ok long lent (l c) ∙ sym c
       go (Refused number place) c = then-no (check s) (needRoom long lent) number place c ∙ sym c
 
-  -- room for the longest tables is enough for every file
-  tables-verdict : (before : List ℕ) → longest .tables ≡ length before → andThen (check s) (needRoom (tablesLength (headerOf s)) before) ≡ check s
-  tables-verdict before e = only-check (tablesLength (headerOf s)) before fit
-    where
-      fit : check s ≡ Accepted → tablesLength (headerOf s) ≤ length before
-      fit c =
-          let w : WithinLimits (headerOf s) = rw (net-held s) at (checked-set s c .rules .limits) in
-          omega (arith, longest-tables (headerOf s) w, figures.longest-tables)
+  -- room that is enough for the tables of an accepted file
+  tables-verdict : (before : List ℕ) → (check s ≡ Accepted → tablesLength (headerOf s) ≤ length before) → andThen (check s) (needRoom (tablesLength (headerOf s)) before) ≡ check s
+  tables-verdict before enough = only-check (tablesLength (headerOf s)) before enough
+
+  pub made-all : (before tables : List ℕ) (answer : LengthAnswer) → Room (longest .tables) before → Promise tablesEntry s before answer tables → Made s answer tables
+  made-all before tables answer room P =
+      record {
+        before = before;
+        enough = λ c.
+            let w : WithinLimits (headerOf s) = rw (net-held s) at (checked-set s c .rules .limits) in
+            omega (arith, room .long, longest-tables (headerOf s) w, figures.longest-tables);
+        kept = P;
+      }
+
+  pub made-few : (before tables : List ℕ) (answer : LengthAnswer) → Room fewTables before → tablesLength (headerOf s) ≤ fewTables → Promise tablesEntry s before answer tables → Made s answer tables
+  made-few before tables answer room few P = record { before = before; enough = λ c. omega (arith, room .long); kept = P }
+
+  pub few-enough : (h : Network) (r : ℕ) → r ≡ tablesLength h → h ≡ headerOf s → r ≤ fewTables → tablesLength (headerOf s) ≤ fewTables
+  few-enough h r e d l = subst (λ (g : Network). tablesLength g ≤ fewTables) d (omega arith)
 
   -- room for the longest report is enough for every file
   pub report-verdict : (old : List ℕ) → longest .report ≡ length old → andThen (check s) (needRoom (length (reportText (setOf s))) old) ≡ check s
@@ -139,7 +150,7 @@ module _ (s : List ℕ) where
   unfolding tablesEntry reportEntry lengthTells tell onAccept
   made-refused answer tables old number place M e =
       let t : andThen (check s) (needRoom (tablesLength (headerOf s)) (M .before)) ≡ Refused number place = tells-refused _ (tablesLength (headerOf s) ∷ []) number place (sym (ap lengthTells e) ∙ M .kept .answer) in
-      let v = then-no (check s) (needRoom (length (reportText (setOf s))) old) number place (sym (tables-verdict (M .before) (M .long)) ∙ t) in
+      let v = then-no (check s) (needRoom (length (reportText (setOf s))) old) number place (sym (tables-verdict (M .before) (M .enough)) ∙ t) in
       record { answer = rw v; lent = rw v }
 
 -- ---- what the program prints
@@ -204,4 +215,4 @@ says-refusal answer old new number place r e w = line number place e w
 pub one-print : (s old new new′ : List ℕ) (r r′ : ℕ) → Printed s old r new → Printed s old r′ new′ → (r ≡ r′) × (new ≡ new′)
 one-print s old new new′ r r′ p q = (p .long ∙ sym (q .long), p .is ∙ sym (q .is))
 
-pub ruleset answers = (array-long, made-ready, written-whole, apart-inside, apart-copied, reported, made-refused, refusal-of, printed-of, says-report, says-refusal)
+pub ruleset answers = (array-long, made-all, made-few, few-enough, made-ready, written-whole, apart-inside, apart-copied, reported, made-refused, refusal-of, printed-of, says-report, says-refusal)

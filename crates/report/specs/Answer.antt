@@ -6,18 +6,19 @@ use lib.ListN.{length}
 use Rattle.rules.specs.declared.LengthAnswer.{LengthAnswer}
 use Rattle.rules.specs.declared.LengthAnswer.the-variants as long
 use Rattle.rules.specs.Basics.{laid}
-use Rattle.rules.specs.Limits.{longest}
-use Rattle.rules.specs.File.{setOf}
+use Rattle.rules.specs.declared.Verdict.the-variants.{Accepted}
+use Rattle.rules.specs.Limits.{tablesLength}
+use Rattle.rules.specs.File.{headerOf, setOf}
 use Rattle.rules.specs.Judgement.{check}
 use Rattle.rules.specs.Report.{refusalLine, printed}
 use Rattle.rules.specs.Entries.Entry.{Promise}
 use Rattle.rules.specs.Entries.Tables.{tablesEntry}
 use Rattle.text.specs.Text.{Wrote, labelledRoom}
 
--- what the entry `tables` answered of file s, and the tables it left in room for the longest
+-- what the entry `tables` answered of file s, and the tables it left in room that is enough for them
 pub record Made (s : List ℕ) (answer : LengthAnswer) (tables : List ℕ) : Type 0 where
   pub before : List ℕ
-  pub long : longest .tables ≡ length before
+  pub enough : check s ≡ Accepted → tablesLength (headerOf s) ≤ length before
   pub kept : Promise tablesEntry s before answer tables
 
 -- the line of a refusal: two labels with their numbers, and the newline

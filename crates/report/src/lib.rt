@@ -9,10 +9,13 @@ use rules::Network;
 use tables::tables;
 use text::labelled;
 use text::put;
-ghost use Rattle.rules.specs.File.{setOf};
+ghost use Prim.Native.Nat.{_≤_};
+ghost use Rattle.rules.specs.Limits.{tablesLength};
+ghost use Rattle.rules.specs.File.{headerOf, setOf};
 ghost use Rattle.rules.specs.Report.{reportText, refusalLine};
 ghost use Rattle.rules.specs.Entries.Entry.{Promise};
 ghost use Rattle.rules.specs.Entries.Report.{reportEntry};
+ghost use Rattle.rooms.specs.Rooms.{fewTables};
 ghost use Rattle.text.specs.Text.{Wrote};
 ghost use Rattle.detections.specs.Detection.{Ready};
 ghost use Rattle.anyroom.specs.Laying.{Copied};
@@ -54,15 +57,36 @@ fn report_by(made: LengthAnswer, file: &[u8], tables: &[u8], text: &mut [u8]) ->
     }
 }
 
+// By tables in room for those of a small set, where that will do.
+fn by_few(file: &[u8], text: &mut [u8]) -> LengthAnswer
+    requires { ⌜ tablesLength (headerOf (now file)) ≤ fewTables ⌝ }
+    ensures { λ r. ⌜ Promise reportEntry (now (file .entry)) (now (text .entry)) r (now (text .exit)) ⌝ }
+{
+    let mut room = rooms::few_tables();
+    let made = tables(file, &mut room);
+    report_by(made, file, &room, text)
+}
+
+// By tables in room for the longest.
+fn by_all(file: &[u8], text: &mut [u8]) -> LengthAnswer
+    ensures { λ r. ⌜ Promise reportEntry (now (file .entry)) (now (text .entry)) r (now (text .exit)) ⌝ }
+{
+    let mut room = rooms::tables();
+    let made = tables(file, &mut room);
+    report_by(made, file, &room, text)
+}
+
 // The report on a file's set, from the text's first byte on; or the refusal, and every byte of the text as it came.
 // Rules out: no lines for destinations below the node's own number `lines/lower_end_only`; hops counted with nothing down
 // `detections/hops_with_nothing_down`.
 pub fn report(file: &[u8], text: &mut [u8]) -> LengthAnswer
     ensures { λ r. ⌜ Promise reportEntry (now (file .entry)) (now (text .entry)) r (now (text .exit)) ⌝ }
 {
-    let mut room = rooms::tables();
-    let made = tables(file, &mut room);
-    report_by(made, file, &room, text)
+    let net = header(file);
+    if net.tables_length() <= rooms::FEW_TABLES {
+        return by_few(file, text);
+    }
+    by_all(file, text)
 }
 
 // ---- what the report program prints
