@@ -23,11 +23,7 @@ fn copied(made: &[u8], long: usize, text: &mut [u8]) -> LengthAnswer
 // The same of a text that has its own array.
 // Rules out: bytes told of a text that the lent room is too short for `another_room_measured`; 14 where that room is longer than the
 // text `more_room_than_the_text_refused`.
-pub fn lay_text(
-    made: &[u8; Network::LONGEST_REPORT],
-    long: usize,
-    text: &mut [u8],
-) -> LengthAnswer
+pub fn lay_text(made: &[u8; Network::LONGEST_REPORT], long: usize, text: &mut [u8]) -> LengthAnswer
     requires { ⌜ long ≤ length (now made) ⌝ }
     ensures { λ r. ⌜ Copied (take long (now (made .entry))) (now (text .entry)) r (now (text .exit)) ⌝ }
 {

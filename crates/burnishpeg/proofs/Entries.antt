@@ -20,6 +20,7 @@ use Rattle.rules.specs.Entries.Build.{BuildInput, buildEntry}
 use Rattle.rules.specs.Entries.Tables.{tablesEntry}
 use Rattle.rules.specs.Entries.Step.{StepInput, stepEntry}
 use Rattle.rules.specs.Entries.Run.{RunInput, RunLent, runEntry}
+use Rattle.rules.specs.Entries.Report.{reportEntry}
 use Rattle.answerwords.specs.Words.{wordOf, byLength, byRead, byStep, byRun, Answers}
 
 answers : {Input Lent Answer : Type 0} (E : Entry Input Lent Answer) (ranges : List ℕ) (i : Input) (before : Lent) (r : Answer) (after : Lent) (w : ℕ) → Promise E i before r after → w ≡ wordOf ranges (E .tells r) → Answers E ranges i before w after
@@ -36,6 +37,10 @@ build-word i before after r w P e = answers buildEntry byLength i before r after
 pub tables-word : (s before after : List ℕ) (r : LengthAnswer) (w : ℕ) → Promise tablesEntry s before r after → w ≡ wordOf byLength (lengthTells r) → Answers tablesEntry byLength s before w after
 unfolding tablesEntry
 tables-word s before after r w P e = answers tablesEntry byLength s before r after w P e
+
+pub report-word : (s before after : List ℕ) (r : LengthAnswer) (w : ℕ) → Promise reportEntry s before r after → w ≡ wordOf byLength (lengthTells r) → Answers reportEntry byLength s before w after
+unfolding reportEntry
+report-word s before after r w P e = answers reportEntry byLength s before r after w P e
 
 pub write-word : (i : WriteInput) (before after : List ℕ) (r : LengthAnswer) (w : ℕ) → Promise writeEntry i before r after → w ≡ wordOf byLength (lengthTells r) → Answers writeEntry byLength i before w after
 unfolding writeEntry
@@ -63,4 +68,4 @@ pub ran-word : (s : List ℕ) (u t : ℕ) (f g : Failure) (before after : RunLen
     → Answers runEntry byRun (record { file = s; source = u; destination = t; failure = g }) before w after
 ran-word s u t f g before after r w d P e = subst (λ (x : Failure). Answers runEntry byRun (record { file = s; source = u; destination = t; failure = x }) before w after) d (run-word (record { file = s; source = u; destination = t; failure = f }) before after r w P e)
 
-pub ruleset entries = (check-word, build-word, tables-word, written-word, read-word, stepped-word, ran-word)
+pub ruleset entries = (check-word, build-word, tables-word, report-word, written-word, read-word, stepped-word, ran-word)

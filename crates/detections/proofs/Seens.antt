@@ -156,4 +156,5 @@ module _ (s tables : List ℕ) (net : Network) (R : Ready s net tables) where
       λ i. record { via = v i; kind = kindOf (y i); topology = packetOf (y i) .topology; next = packetOf (y i) .place; hops = b i; plain = f i }
 
 pub ruleset walks = (walk-begins, walk-goes-on, walk-arrives, walk-stops)
+
 pub ruleset seens = (ready-header, seen-of)
