@@ -72,7 +72,7 @@ static uint8_t *line(const Tables &tables, int u, int t, uint8_t *p) {
 }
 
 size_t peer_report(Engine engine, const Set &s, uint8_t *out) {
-    vector<uint8_t> bytes(most_bytes);
+    vector<uint8_t> bytes((s.k + 2) * s.n * s.n);
     peer_tables(engine, s, bytes.data());
     Tables tables{s, bytes.data()};
     uint8_t *p = text(out, "node via dest kind topology next hops extra\n");
