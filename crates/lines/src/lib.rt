@@ -51,6 +51,7 @@ fn extra(hops: u8, plain: u8) -> i32
     backup - before
 }
 
+// The same as the line's last field.
 fn extra_hops(text: &mut [u8], at: usize, hops: u8, plain: u8) -> usize
     requires { ⌜ at < 8388608 ⌝ }
     ensures { λ r. ⌜ Wrote (now (text .entry)) at (signed (pos hops -ℤ pos plain)) signedRoom r (now (text .exit)) ⌝ }

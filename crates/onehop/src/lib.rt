@@ -1,6 +1,7 @@
 // One hop of a packet by value, in the order of 01's rule: `take` promises the step that the rule makes of it, `detour` where it goes
-// in place of a next hop that it cannot reach, and `lookup_number` 15 where an entry that this step looks up is no neighbour. `net` is the header of `file`, which the judge accepts where the
-// contract says `Judged`, and `tables` are read as they are, whatever they hold. Which hops are up is `linkstate`'s to say.
+// in place of a next hop that it cannot reach, and `lookup_number` 15 where an entry that this step looks up is no neighbour. `net` is
+// the header of `file`, which the judge accepts where the contract says `Judged`, and `tables` are read as they are, whatever they
+// hold. Which hops are up is `linkstate`'s to say.
 use layout::home_topology;
 use linkstate::is_up;
 use linkstate::neighbours;

@@ -77,8 +77,8 @@ fn by_all(file: &[u8], text: &mut [u8]) -> LengthAnswer
 }
 
 // The report on a file's set, from the text's first byte on; or the refusal, and every byte of the text as it came.
-// Rules out: no lines for destinations below the node's own number `lines/lower_end_only`; hops counted with nothing down
-// `detections/hops_with_nothing_down`.
+// Rules out: a text cut off where the room ends `a_short_room_written_into`; 14 for a large set in ample room
+// `every_set_taken_for_small`; also `lines/lower_end_only`, `detections/hops_with_nothing_down`.
 pub fn report(file: &[u8], text: &mut [u8]) -> LengthAnswer
     ensures { λ r. ⌜ Promise reportEntry (now (file .entry)) (now (text .entry)) r (now (text .exit)) ⌝ }
 {

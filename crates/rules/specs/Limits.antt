@@ -1,4 +1,4 @@
--- 01, 'Numbers that bound it'.
+-- 01, 'Numbers that bound it', with 02's request a.
 use Prim.Native.Nat.{ℕ, _+_, _*_, _-_}
 use lib.Dec.{eqb, leb}
 use Rattle.rules.specs.declared.Network.{Network}

@@ -1,5 +1,6 @@
-// Text at a cursor: bytes, numbers in decimal, with a sign where they have one, labels and letters. Each function promises that its bytes stand from `at` on, as far
-// as the text reaches, and returns the place after them. A byte past the text's end is not stored, so no caller has to ask for room.
+// Text at a cursor: bytes, numbers in decimal, with a sign where they have one, labels and letters. Each function promises that its
+// bytes stand from `at` on, as far as the text reaches, and returns the place after them. A byte past the text's end is not stored, so
+// no caller has to ask for room.
 use rules::Kind;
 use slices::byte;
 use slices::store;
