@@ -93,6 +93,10 @@ static vector<double> row(const Size &size, int count, const vector<Way> &ways, 
 
 static const char *holds(bool it) { return it ? "holds" : "does not hold"; }
 
+static bool no_slower_than_by_hand(const vector<vector<double>> &rows) {
+    return std::all_of(rows.begin(), rows.end(), [](const vector<double> &times) { return times[0] <= times[1]; });
+}
+
 // What is asked of the tables, of the rows at n = 32 and n = 16. `boost` is the way that is Boost Graph's Dijkstra.
 static void bar(const char *which, const vector<double> &wide, const vector<double> &middle, int boost) {
     double eighth = wide[0] / wide[boost], quarter = middle[0] / middle[boost];
@@ -134,8 +138,7 @@ static void over_tests(const char *what) {
     vector<vector<double>> rows;
     for (const Size &size : graph_sizes) rows.push_back(row(size, 1, ways, many_rounds));
     for (const Size &size : graph_sizes) rows.push_back(row(size, size.variety, ways, many_rounds));
-    bool first = std::all_of(rows.begin(), rows.end(), [](const vector<double> &times) { return times[0] <= times[1]; });
-    std::printf("\nWhat is asked of the builder: at every size no slower than the one by hand: %s.\n", holds(first));
+    std::printf("\nWhat is asked of the builder: at every size no slower than the one by hand: %s.\n", holds(no_slower_than_by_hand(rows)));
 }
 
 // The proved builder's work on each size: on one graph, and the mean over different ones.
@@ -186,7 +189,8 @@ int main() {
     std::printf("\nWhat is asked of the tables:\n\n");
     bar("One set over and over", tables[0], tables[1], 2);
     bar("Different sets in turn", tables[3], tables[4], 2);
-    over_engines("Report", our_report, peer_report);
+    vector<vector<double>> reports = over_engines("Report", our_report, peer_report);
+    std::printf("\nWhat is asked of the report: at every size no slower than the one by hand: %s.\n", holds(no_slower_than_by_hand(reports)));
     over_tests("Build");
     work();
     without_peers();
