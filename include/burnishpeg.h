@@ -31,13 +31,10 @@
 extern "C" {
 #endif
 
-/* The check of a set's file. Value: 0. Refusals 1 to 6, 13, 7 and 8 by topology. */
-uint64_t burnishpeg_check(const uint8_t *file, size_t file_len);
-
-/* From a graph's file to a set's file. Value: the length written at the front of `out`. Refusals 1 to 6, 13, 11, 9, 10, 14. */
+/* From a graph's file to a set's file. Value: the length written at the front of `out`. Refusals 1 to 8, 13, 11, 9, 10, 14. */
 uint64_t burnishpeg_build(const uint8_t *graph, size_t graph_len, uint8_t cap, uint8_t *out, size_t out_len);
 
-/* The tables of a set's file. Value: the length written at the front of `tables`. Refusals 1 to 6, 13, 7 and 8, 14. */
+/* The tables of a set's file. Value: the length written at the front of `tables`. Refusals 1 to 8, 13, 14. */
 uint64_t burnishpeg_tables(const uint8_t *file, size_t file_len, uint8_t *tables, size_t tables_len);
 
 /* One step of a packet by the tables that are lent, as they are. Value: bits 0 to 7 how it stands (0 moved, 1 delivered,
@@ -48,21 +45,23 @@ uint64_t burnishpeg_step(const uint8_t *file, size_t file_len, const uint8_t *ta
 
 /* A packet's run from a source to its destination. Value: bits 0 to 7 how it ended (1 delivered, 2 dropped), then a byte each:
  * its hops, its last topology, the letter of its change (45: none). The tables are left at the front of `tables`, the nodes
- * visited, hops + 1 of them, at the front of `trail`. Refusals 1 to 6, 13, 7 and 8, 11, 12, 14. */
+ * visited, hops + 1 of them, at the front of `trail`. Refusals 1 to 8, 13, 11, 12, 14. */
 uint64_t burnishpeg_run(const uint8_t *file, size_t file_len, uint8_t source, uint8_t destination, uint8_t failure,
                         uint16_t failed, uint8_t *tables, size_t tables_len, uint8_t *trail, size_t trail_len);
 
-/* The report's text. Value: the length written at the front of `text`. Refusals 1 to 6, 13, 7 and 8, 14 where text_len is under the
- * text's length. BURNISHPEG_LONGEST_REPORT bytes are enough for every set. */
+/* The report's text. Value: the length written at the front of `text`. Refusals 1 to 8, 13, 14 where text_len is under the text's
+ * length. BURNISHPEG_LONGEST_REPORT bytes are enough for every set. */
 uint64_t burnishpeg_report(const uint8_t *file, size_t file_len, uint8_t *text, size_t text_len);
 
-/* A file into lists: link ends, link weights, homes, backup weights. Value: n in bits 0 to 7, m in 8 to 23, k in 24 to 31, wmax
- * in 32 to 47. Refusals 1 to 6, 14. */
+/* Takes in a file, of a set or of a graph alone, into lists: link ends, link weights, homes, backup weights. Value: n in bits 0 to 7,
+ * m in 8 to 23, k in 24 to 31 (0: a graph alone), wmax in 32 to 47. What is accepted meets every rule, those of the backup topologies
+ * among them. Refusals 1 to 8, 14. */
 uint64_t burnishpeg_read(const uint8_t *file, size_t file_len, uint8_t *a, size_t a_len, uint8_t *b, size_t b_len,
                          uint16_t *weights, size_t weights_len, uint8_t *homes, size_t homes_len, uint16_t *rows,
                          size_t rows_len);
 
-/* Lists into a file. Value: the length written at the front of `out`. Refusals 3, 1 for a short list, 4 to 6, 14. */
+/* Lists into a file that can be taken in again. Value: the length written at the front of `out`. Refusals 3, 1 for a short list, 4 to 8,
+ * 14. */
 uint64_t burnishpeg_write(uint8_t n, uint16_t m, uint8_t k, uint16_t wmax, const uint8_t *a, size_t a_len, const uint8_t *b,
                           size_t b_len, const uint16_t *weights, size_t weights_len, const uint8_t *homes, size_t homes_len,
                           const uint16_t *rows, size_t rows_len, uint8_t *out, size_t out_len);

@@ -3,7 +3,6 @@ use mathlib.Core.Path.{refl}
 use Rattle.rules.specs.File.{headerOf}
 use Rattle.rules.specs.Entries.Read.{readEntry}
 use Rattle.rules.specs.Entries.Write.{writeEntry}
-use Rattle.rules.specs.Entries.Check.{checkEntry}
 use Rattle.rules.specs.Entries.Build.{buildEntry}
 use Rattle.rules.specs.Entries.Tables.{tablesEntry}
 use Rattle.rules.specs.Entries.Step.{stepOf, stepEntry}
@@ -13,10 +12,11 @@ use Rattle.rules.specs.Demands.One.{noLengths, itsLength, listLengths, r
 use Rattle.rules.specs.Demands.Two.{Demand2}
 use Rattle.rules.specs.Demands.Detections.{ExtrasAre}
 use Rattle.rules.specs.Demands.Three.{Demand3}
+use Rattle.rules.specs.Demands.TakingIn.{BrokenRefused}
 use Rattle.rules.specs.Refusals.{RefusalsSaySo}
 use Rattle.rules.proofs.File.LaidOut.{files-laid-out}
 use Rattle.rules.proofs.File.Accepted.{accepted-exactly, one-set, longest-file}
-use Rattle.rules.proofs.File.Checked.{checked-exactly}
+use Rattle.rules.proofs.File.TakenIn.{taken-in-exactly, accepted-published}
 use Rattle.rules.proofs.File.RoundTrip.{same-bytes, reads-back}
 use Rattle.rules.proofs.Isolation.Sound.{fewer-isolated}
 use Rattle.rules.proofs.Isolation.Degree.{links-enough}
@@ -32,10 +32,9 @@ use Rattle.rules.proofs.Building.BuildNumber.{nine-exactly, ten-exactly
 use Rattle.rules.proofs.Report.Lines.{lines-are-runs}
 use Rattle.rules.proofs.Report.Coverage.{coverage}
 use Rattle.rules.proofs.Report.Extras.{extras-are}
-use Rattle.rules.proofs.Entries.Determined.{takes-every-input, verdict-one, read-one, length-one, step-one, run-one, length-says, read-says, verdict-says, step-says, run-says}
+use Rattle.rules.proofs.Entries.Determined.{takes-every-input, read-one, length-one, step-one, run-one, length-says, read-says, step-says, run-says}
 use Rattle.rules.proofs.Entries.Read.{read-accepts, read-gives}
 use Rattle.rules.proofs.Entries.Write.{write-accepts, write-gives}
-use Rattle.rules.proofs.Entries.Check.{check-accepts}
 use Rattle.rules.proofs.Entries.Build.{build-accepts, build-gives, build-answers}
 use Rattle.rules.proofs.Entries.Tables.{tables-accepts, tables-gives}
 use Rattle.rules.proofs.Entries.Step.{step-accepts, step-gives}
@@ -43,15 +42,15 @@ use Rattle.rules.proofs.Entries.Run.{run-accepts, run-gives, delivered-
 use Rattle.rules.proofs.Entries.Report.{report-accepts, report-gives, report-fits}
 use Rattle.rules.proofs.Entries.LengthsKept.{read-kept, write-kept, build-kept, tables-kept, report-kept, run-kept}
 use Rattle.rules.proofs.Refusals.Refusing.{refusals-say-so}
-use Rattle.rules.proofs.Refusals.Numbered.{read-numbered, write-numbered, check-numbered, build-numbered, tables-numbered, step-numbered, run-numbered, report-numbered}
+use Rattle.rules.proofs.Refusals.Broken.{broken-refused}
+use Rattle.rules.proofs.Refusals.Numbered.{read-numbered, write-numbered, build-numbered, tables-numbered, step-numbered, run-numbered, report-numbered}
 
 pub demand-1 : Demand1
-unfolding readEntry writeEntry checkEntry buildEntry tablesEntry stepEntry stepOf runEntry reportEntry
+unfolding readEntry writeEntry buildEntry tablesEntry stepEntry stepOf runEntry reportEntry
 demand-1 =
     record {
       read = takes-every-input readEntry listLengths (λ v s d. read-says v (headerOf s)) read-one read-kept read-numbered;
       write = takes-every-input writeEntry itsLength (λ v i d. length-says v _) length-one write-kept write-numbered;
-      check = takes-every-input checkEntry noLengths (λ v s d. verdict-says v) verdict-one (λ s d e. refl) check-numbered;
       build = takes-every-input buildEntry itsLength (λ v i d. length-says v _) length-one build-kept build-numbered;
       tables = takes-every-input tablesEntry itsLength (λ v s d. length-says v _) length-one tables-kept tables-numbered;
       step = takes-every-input stepEntry noLengths (λ v i d. step-says v _) step-one (λ i d e. refl) step-numbered;
@@ -71,15 +70,15 @@ demand-2 =
       read-gives = read-gives;
       write-accepts = write-accepts;
       write-gives = write-gives;
-      check-accepts = check-accepts;
       tables-accepts = tables-accepts;
       tables-gives = tables-gives;
+      taken-in-exactly = taken-in-exactly;
+      accepted-published = accepted-published;
       accepted-exactly = accepted-exactly;
       one-set = one-set;
       longest-file = longest-file;
       same-bytes = same-bytes;
       reads-back = reads-back;
-      checked-exactly = checked-exactly;
       least-distances = least-distances;
       least-next-hops = least-next-hops;
       nearest-alternates = nearest-alternates;
@@ -116,3 +115,7 @@ demand-3 =
 -- 02, a: the extra hops of the report's lines
 pub request-a : ExtrasAre
 request-a = extras-are
+
+-- 02, h: no entry but the step accepts a set that breaks 7 or 8
+pub request-h : BrokenRefused
+request-h = broken-refused

@@ -3,7 +3,6 @@ pub mod Answering
 pub mod Determined
 pub mod Read
 pub mod Write
-pub mod Check
 pub mod Build
 pub mod Tables
 pub mod Step

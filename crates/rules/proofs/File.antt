@@ -6,7 +6,7 @@ pub mod Records
 pub mod WithinCounts
 pub mod EncodesItsSet
 pub mod Accepted
-pub mod Checked
+pub mod TakenIn
 pub mod FileOf
 pub mod AcceptedFile
 pub mod RoundTrip

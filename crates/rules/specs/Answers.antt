@@ -32,11 +32,6 @@ tell (Refused number place) values = refused number place
 
 -- ---- the answers, case by case
 
--- the check: no value
-unfoldable pub verdictTells : Verdict → Told
-verdictTells Accepted = accepted []
-verdictTells (Refused number place) = refused number place
-
 -- the header's counts
 unfoldable pub headerValues : Network → List ℕ
 headerValues h = h .n ∷ h .m ∷ h .k ∷ h .wmax ∷ []

@@ -2,6 +2,7 @@
 -- says, row by row of 01's table, stands in `Refusals`; what an accepted set is, in `Sets`.
 -- `One`, `Two` and `Three` each end with the demand, as one record. `Form` is the form in which demands 2 and 3 speak of an entry. The parts of demand 3 stand
 -- by theme: `Delivery`, of the forwarding rule itself; `Step` and `Run`, of those entries; `Detections`, of the report; `Building`, of the builder.
+-- `TakingIn` is 02's request h, over all entries.
 pub mod One
 pub mod Form
 pub mod Two
@@ -11,3 +12,4 @@ pub mod Run
 pub mod Detections
 pub mod Building
 pub mod Three
+pub mod TakingIn

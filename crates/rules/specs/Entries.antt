@@ -4,7 +4,6 @@ pub mod Entry
 pub mod Lists
 pub mod Read
 pub mod Write
-pub mod Check
 pub mod Build
 pub mod Tables
 pub mod Step

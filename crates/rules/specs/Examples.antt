@@ -1,17 +1,18 @@
 -- 01, 'Examples': P1 to P12, through the entries' definitions; and the report on the triangle, of 01 with 02's request a.
 use mathlib.Core.Path.{_≡_}
 use mathlib.Core.List.{List, [], _∷_, _++_}
-use Prim.Native.Nat.{ℕ}
+use Prim.Native.Nat.{ℕ, _*_}
 use lib.ListN.{replicate}
 use Rattle.rules.specs.declared.Failure.{Failure}
 use Rattle.rules.specs.declared.Failure.the-variants.{Nothing, Link, Node}
-use Rattle.rules.specs.Limits.{tablesLength, trailRoom}
+use Rattle.rules.specs.Limits.{rowWeights, homeRecords, tablesLength, trailRoom}
 use Rattle.rules.specs.File.{Set, encode}
 use Rattle.rules.specs.Forwarding.{trail}
 use Rattle.rules.specs.Building.{filled}
 use Rattle.rules.specs.Report.{headerLine, reportText}
 use Rattle.rules.specs.Answers.{Told, accepted, refused, tell}
-use Rattle.rules.specs.Entries.Check.{checkEntry}
+use Rattle.rules.specs.Entries.Lists.{Lists, lists}
+use Rattle.rules.specs.Entries.Read.{readEntry}
 use Rattle.rules.specs.Entries.Build.{BuildInput, builtFrom, buildEntry}
 use Rattle.rules.specs.Entries.Run.{RunInput, RunLent, runOf, runEntry}
 
@@ -56,9 +57,12 @@ builtRow G cap =
     let room : List ℕ = replicate 100 0 in
     rowOf (tell (buildEntry .verdict i room) (buildEntry .gives i room)) (builtFrom i .net .k ∷ builtFrom i .homes)
 
--- the check: number, place
-unfoldable pub checkedRow : Set → List ℕ
-checkedRow S = rowOf (tell (checkEntry .verdict (encode S) tt) []) []
+-- the reader, into lists that are long enough: number, place; n, m, k, wmax
+unfoldable pub takenInRow : Set → List ℕ
+takenInRow S =
+    let room : Lists =
+    lists (replicate (S .net .m) 0) (replicate (S .net .m) 0) (replicate (S .net .m) 0) (replicate (homeRecords (S .net)) 0) (replicate (S .net .k * rowWeights (S .net)) 0) in
+    rowOf (tell (readEntry .verdict (encode S) room) (readEntry .gives (encode S) room)) []
 
 -- the run: number, place; 1 delivered or 2 dropped, hops, topology, the kind's letter (45: none); then the trail
 unfoldable pub ranRow : Set → ℕ → ℕ → Failure → List ℕ
@@ -81,8 +85,8 @@ computed =
     ∷ ranRow fullFourSet 0 2 (Link 1)
     ∷ ranRow fullFourSet 0 1 (Link 0)
     ∷ ranRow fullFourSet 0 2 (Node 2)
-    ∷ checkedRow (filled ring (1 ∷ 2 ∷ 1 ∷ 3 ∷ []))
-    ∷ checkedRow (filled fullFour (1 ∷ 1 ∷ 1 ∷ 2 ∷ []))
+    ∷ takenInRow (filled ring (1 ∷ 2 ∷ 1 ∷ 3 ∷ []))
+    ∷ takenInRow (filled fullFour (1 ∷ 1 ∷ 1 ∷ 2 ∷ []))
     ∷ ranRow triangleSet 0 0 Nothing
     ∷ []
 

@@ -100,7 +100,17 @@ records s h =
 unfoldable pub judge : List ℕ → Verdict
 judge s = andThen (refuse (headerNumber s) 0) (records s (headerOf s))
 
--- ---- "Then 13; then for topologies 1 to k, 7 before 8; then 11; 9; 10; 12; 14"
+-- ---- "one operation takes bytes and gives either an accepted set or a refusal from 1 to 8" (02, h)
+
+-- "for topologies 1 to k, 7 before 8": 7 and 8, at their topology
+unfoldable pub topologies : Set → Verdict
+topologies S = inTurn (λ j. refuse (topologyNumber S (suc j)) (suc j)) (S .net .k)
+
+-- that operation: 1 to 6 by record, then 7 and 8 by topology; "A graph alone is still taken in, with no topology to check."
+unfoldable pub takeIn : List ℕ → Verdict
+takeIn s = andThen (judge s) (topologies (setOf s))
+
+-- ---- then 13: "13 now comes after them instead of before" (02, h)
 
 -- 13: "graph alone where a set is needed"
 unfoldable pub needSet : Network → Verdict
@@ -110,13 +120,11 @@ needSet h = refuse (need (leb 1 (h .k)) 13 0) 0
 unfoldable pub needGraph : Network → Verdict
 needGraph h = refuse (need (eqb (h .k) 0) 13 0) 0
 
--- 7 and 8, at their topology
-unfoldable pub topologies : Set → Verdict
-topologies S = inTurn (λ j. refuse (topologyNumber S (suc j)) (suc j)) (S .net .k)
+-- taken in where a set is needed
+unfoldable pub takeSet : List ℕ → Verdict
+takeSet s = andThen (takeIn s) (needSet (headerOf s))
 
--- the check of a set
-unfoldable pub check : List ℕ → Verdict
-check s = andThen (judge s) (andThen (needSet (headerOf s)) (topologies (setOf s)))
+-- ---- "then 11; 9; 10; 12; 14"
 
 -- 11: "node, destination, topology, failure or cap outside its range"
 unfoldable pub needFailure : Network → Failure → ℕ → ℕ

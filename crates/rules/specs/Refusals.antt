@@ -18,7 +18,6 @@ use Rattle.rules.specs.Entries.Entry.{Entry, Promise}
 use Rattle.rules.specs.Entries.Lists.{Lists, LongLists}
 use Rattle.rules.specs.Entries.Read.{readEntry}
 use Rattle.rules.specs.Entries.Write.{WriteInput, setWith, writeEntry}
-use Rattle.rules.specs.Entries.Check.{checkEntry}
 use Rattle.rules.specs.Entries.Build.{BuildInput, buildEntry}
 use Rattle.rules.specs.Entries.Tables.{tablesEntry}
 use Rattle.rules.specs.Entries.Step.{StepInput, stepEntry}
@@ -105,9 +104,20 @@ pub record Known (h : Network) (p : Packet) (f : Failure) : Type 0 where
   pub topology : p .topology ≤ h .k
   pub failure : InRange h f
 
+-- bytes that are not taken in: 1 to 6 of the file; then 7 and 8 of its topologies, where it meets its own rules
+pub data IntakeFault (s : List ℕ) : ℕ → ℕ → Type 0 where
+  file : {number place : ℕ} → FileFault s number place → IntakeFault s number place
+  topology : {number place : ℕ} → MeetsRules (setOf s) → TopologyFault (setOf s) number place → IntakeFault s number place
+
+-- the same where a set is needed
+pub data SetFault (s : List ℕ) : ℕ → ℕ → Type 0 where
+  intake : {number place : ℕ} → IntakeFault s number place → SetFault s number place
+  -- 13: "graph alone where a set is needed"
+  graph : headerOf s .k ≡ 0 → SetFault s 13 0
+
 -- read
 pub data ReadFault (s : List ℕ) (d : Lists) : ℕ → ℕ → Type 0 where
-  file : {number place : ℕ} → FileFault s number place → ReadFault s d number place
+  intake : {number place : ℕ} → IntakeFault s number place → ReadFault s d number place
   -- 14: "lent room too short"
   room : (LongLists (headerOf s) d → ⊥) → ReadFault s d 14 0
 
@@ -115,20 +125,12 @@ pub data ReadFault (s : List ℕ) (d : Lists) : ℕ → ℕ → Type 0 where
 pub data WriteFault (i : WriteInput) (lent : List ℕ) : ℕ → ℕ → Type 0 where
   counts : (WithinLimits (i .net) → ⊥) → WriteFault i lent 3 0
   lists : (LongLists (i .net) (i .lists) → ⊥) → WriteFault i lent 1 0
-  file : {number place : ℕ} → FileFault (encode (setWith (i .net) (i .lists))) number place → WriteFault i lent number place
+  intake : {number place : ℕ} → IntakeFault (encode (setWith (i .net) (i .lists))) number place → WriteFault i lent number place
   room : length lent < fileLength (i .net) → WriteFault i lent 14 0
-
--- check: of a file, then of its topologies
-pub data CheckFault (s : List ℕ) : ℕ → ℕ → Type 0 where
-  file : {number place : ℕ} → FileFault s number place → CheckFault s number place
-  -- 13: "graph alone where a set is needed"
-  graph : headerOf s .k ≡ 0 → CheckFault s 13 0
-  -- 7 and 8, of a file that meets its own rules
-  topology : {number place : ℕ} → MeetsRules (setOf s) → TopologyFault (setOf s) number place → CheckFault s number place
 
 -- build
 pub data BuildFault (i : BuildInput) (lent : List ℕ) : ℕ → ℕ → Type 0 where
-  file : {number place : ℕ} → FileFault (i .file) number place → BuildFault i lent number place
+  intake : {number place : ℕ} → IntakeFault (i .file) number place → BuildFault i lent number place
   -- 13: "a set given to the builder"
   set : (headerOf (i .file) .k ≡ 0 → ⊥) → BuildFault i lent 13 0
   -- 11: "[..] cap outside its range"
@@ -139,9 +141,9 @@ pub data BuildFault (i : BuildInput) (lent : List ℕ) : ℕ → ℕ → Type 0 
   ten : i .cap < topologiesNeeded (setOf (i .file)) → BuildFault i lent 10 0
   room : length lent < fileLength (withTopologies (headerOf (i .file)) (topologiesNeeded (setOf (i .file)))) → BuildFault i lent 14 0
 
--- tables: those of check, then room
+-- tables
 pub data TablesFault (s lent : List ℕ) : ℕ → ℕ → Type 0 where
-  check : {number place : ℕ} → CheckFault s number place → TablesFault s lent number place
+  set : {number place : ℕ} → SetFault s number place → TablesFault s lent number place
   room : length lent < tablesLength (headerOf s) → TablesFault s lent 14 0
 
 -- step
@@ -156,18 +158,18 @@ pub data StepFault (i : StepInput) : ℕ → ℕ → Type 0 where
   -- 15: "a table entry it looks up isn't a neighbour"
   lookup : (LooksUp (setOf (i .file)) (lentTables (headerOf (i .file)) (i .tables)) (up (setOf (i .file)) (faultOf (i .failure))) (i .packet) → ⊥) → StepFault i 15 0
 
--- run: those of check, then its own
+-- run
 pub data RunFault (i : RunInput) (d : RunLent) : ℕ → ℕ → Type 0 where
-  check : {number place : ℕ} → CheckFault (i .file) number place → RunFault i d number place
+  set : {number place : ℕ} → SetFault (i .file) number place → RunFault i d number place
   range : (Known (headerOf (i .file)) (packet (i .source) (i .destination) 0) (i .failure) → ⊥) → RunFault i d 11 0
   -- 12: "the source [..] is the failed node"
   stopped : (Standing (i .source) (i .failure) → ⊥) → RunFault i d 12 0
   tables : length (d .tables) < tablesLength (headerOf (i .file)) → RunFault i d 14 0
   trail : length (d .trail) < trailRoom (headerOf (i .file)) → RunFault i d 14 0
 
--- report: those of check, then room
+-- report
 pub data ReportFault (s lent : List ℕ) : ℕ → ℕ → Type 0 where
-  check : {number place : ℕ} → CheckFault s number place → ReportFault s lent number place
+  set : {number place : ℕ} → SetFault s number place → ReportFault s lent number place
   room : length lent < length (reportText (setOf s)) → ReportFault s lent 14 0
 
 -- where an entry's answer tells a refusal, what its number and place say is so
@@ -179,7 +181,6 @@ SaysSo {Input} {Lent} {Answer} E Fault =
 pub record RefusalsSaySo : Type 0 where
   pub read : SaysSo readEntry ReadFault
   pub write : SaysSo writeEntry WriteFault
-  pub check : SaysSo checkEntry (λ s d. CheckFault s)
   pub build : SaysSo buildEntry BuildFault
   pub tables : SaysSo tablesEntry TablesFault
   pub step : SaysSo stepEntry (λ i d. StepFault i)

@@ -75,9 +75,21 @@ pub record Sound (S : Set) (i : ℕ) : Type 0 where
   pub joined : (u w : ℕ) → backbone S i u ≡ true → backbone S i w ≡ true → Walk (normalHop S i) u w
   pub two : (v : ℕ) → v < S .net .n → isolated S i v ≡ true → Two (λ w. neighbours S v w && backbone S i w)
 
+-- ---- a graph alone or a set, by all published rules
+
+-- the published rules, those of the file and those of the backup topologies; a graph alone has no topology to check (02, h)
+pub record Published (S : Set) : Type 0 where
+  pub rules : MeetsRules S
+  pub sound : (i : ℕ) → 1 ≤ i → i ≤ S .net .k → Sound S i
+
+-- these bytes are the file of S, by all published rules
+pub record PublishedFile (S : Set) (s : List ℕ) : Type 0 where
+  pub published : Published S
+  pub bytes : encode S ≡ s
+
 -- ---- an accepted set
 
--- a set that the check accepts
+-- the same of a set: there is a backup topology
 pub record AcceptedSet (S : Set) : Type 0 where
   pub rules : MeetsRules S
   pub topologies : 1 ≤ S .net .k

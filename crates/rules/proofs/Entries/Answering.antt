@@ -19,12 +19,12 @@ use Rattle.rules.specs.declared.RunAnswer.the-variants as ran
 use Rattle.rules.specs.Basics.{laid}
 use Rattle.rules.specs.File.{Set}
 use Rattle.rules.specs.Forwarding.{Run, hops}
-use Rattle.rules.specs.Answers.{accepted, tell, verdictTells, headerValues, readTells, lengthTells, stepValues, stepTells, journeyValues, runTells}
+use Rattle.rules.specs.Answers.{accepted, tell, headerValues, readTells, lengthTells, stepValues, stepTells, journeyValues, runTells}
 use Rattle.rules.specs.Entries.Entry.{Entry, onAccept, Promise}
 use Rattle.rules.specs.Entries.Run.{runValues}
-use Rattle.rules.specs.Demands.Form.{AcceptsExactly, IsRead, IsLength, IsAccepted, IsTaken, IsEnded, Front}
+use Rattle.rules.specs.Demands.Form.{AcceptsExactly, IsRead, IsLength, IsTaken, IsEnded, Front}
 use Rattle.rules.proofs.Ground.Rows.{laid-rest, laid-front}
-use Rattle.rules.proofs.Entries.Determined.{verdict-one, read-one, length-one, step-one, run-one}
+use Rattle.rules.proofs.Entries.Determined.{read-one, length-one, step-one, run-one}
 
 -- values are told of an accepted verdict alone
 pub tells-accepted : (v : Verdict) (given values : List ℕ) → accepted values ≡ tell v given → v ≡ Accepted
@@ -80,14 +80,6 @@ length-values r y = (y .0 ∷ [], ap lengthTells (y .1))
 pub length-is : (r : LengthAnswer) (bytes : ℕ) → lengthTells r ≡ accepted (bytes ∷ []) → r ≡ long.Length bytes
 unfolding lengthTells
 length-is r bytes e = length-one r (long.Length bytes) e
-
-pub verdict-values : (r : Verdict) → IsAccepted r → (values : List ℕ) × (verdictTells r ≡ accepted values)
-unfolding verdictTells
-verdict-values r y = ([], ap verdictTells y)
-
-pub verdict-is : (r : Verdict) → verdictTells r ≡ accepted [] → r ≡ Accepted
-unfolding verdictTells
-verdict-is r e = verdict-one r Accepted e
 
 pub step-values : (r : StepAnswer) → IsTaken r → (values : List ℕ) × (stepTells r ≡ accepted values)
 unfolding stepTells

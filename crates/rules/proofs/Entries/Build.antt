@@ -21,6 +21,7 @@ use Rattle.rules.specs.Demands.Building.{Removable, topologiesNeeded, wi
 use Rattle.rules.proofs.Ground.Choices.{refuse-ok, refuse-zero, then-ok, then-first, then-second}
 use Rattle.rules.proofs.File.Accepted.{judged}
 use Rattle.rules.proofs.File.FileOf.{file-judged, file-set, judged-file}
+use Rattle.rules.proofs.File.TakenIn.{taken-file, graph-taken}
 use Rattle.rules.proofs.Building.FirstFit.{succeeds, fitted-removable}
 use Rattle.rules.proofs.Building.BuiltAccepted.{built-accepted}
 use Rattle.rules.proofs.Building.BuiltBy.{built-by, built-topologies, built-net}
@@ -55,10 +56,10 @@ asked i lent e =
     let cap = then-second _ _ graph in
     let fit = then-second _ _ cap in
     record {
-      file = then-first _ _ e;
+      file = taken-file (i .file) (then-first _ _ e);
       graph = graph-needed (headerOf (i .file)) (then-first _ _ graph);
       cap = cap-needed (i .cap) (then-first _ _ cap);
-      fit = fit-needed (setOf (i .file)) (i .cap) (judged (i .file) (then-first _ _ e) .rules) (then-first _ _ fit);
+      fit = fit-needed (setOf (i .file)) (i .cap) (judged (i .file) (taken-file (i .file) (then-first _ _ e)) .rules) (then-first _ _ fit);
       room = room-long (fileLength (built (setOf (i .file)) (i .cap) .net)) lent (then-second _ _ fit);
     }
 
@@ -74,7 +75,7 @@ unfolding buildEntry builtFrom setOf
 held-meets i lent M =
     let G : Set = setOf (i .file) in
     let ok = its-fit G i lent M in
-    then-ok _ _ (file-judged G (i .file) (M .file))
+    then-ok _ _ (graph-taken (i .file) (file-judged G (i .file) (M .file)) (M .graph))
     ∙ then-ok _ _ (graph-given (headerOf (i .file)) (M .graph))
     ∙ then-ok _ _ (cap-given (i .cap) (M .cap .0) (M .cap .1))
     ∙ then-ok _ _ (fit-given G (i .cap) (M .file .rules) ok)

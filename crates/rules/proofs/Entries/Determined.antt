@@ -7,7 +7,7 @@ use native.Mathlib.Omega.{arith}
 use lib.Dec.{eqb}
 use Rattle.rules.specs.Basics.{if_then_else_}
 use Rattle.rules.specs.Forwarding.{Run, hops, letter}
-use Rattle.rules.specs.Answers.{accepted, refused, tell, verdictTells, headerValues, readTells, lengthTells, outcomeValue, packetValues, stepValues, stepTells, journeyValues, runTells}
+use Rattle.rules.specs.Answers.{accepted, refused, tell, headerValues, readTells, lengthTells, outcomeValue, packetValues, stepValues, stepTells, journeyValues, runTells}
 use Rattle.rules.specs.Entries.Entry.{Entry, onAccept}
 use Rattle.rules.specs.Entries.Run.{runValues}
 use Rattle.rules.specs.Demands.One.{Numbered, TakesEveryInput}
@@ -66,13 +66,6 @@ module _ {Input Lent Answer : Type 0} (E : Entry Input Lent Answer) (lengths : L
       }
 
 -- ---- the answers
-
-pub verdict-one : (r r′ : Verdict) → verdictTells r ≡ verdictTells r′ → r ≡ r′
-unfolding verdictTells
-verdict-one Accepted Accepted e = refl
-verdict-one Accepted (Refused number place) e = cc
-verdict-one (Refused number place) Accepted e = cc
-verdict-one (Refused number place) (Refused c p) e = cc
 
 pub header-one : (h h′ : Network) → headerValues h ≡ headerValues h′ → h ≡ h′
 unfolding headerValues
@@ -191,11 +184,6 @@ pub read-says : (v : Verdict) (h : Network) → (r : ReadAnswer) × (readTells r
 unfolding readTells tell
 read-says Accepted h = (read.Read h, refl)
 read-says (Refused number place) h = (read.Refused number place, refl)
-
-pub verdict-says : (v : Verdict) → (r : Verdict) × (verdictTells r ≡ tell v [])
-unfolding verdictTells tell
-verdict-says Accepted = (Accepted, refl)
-verdict-says (Refused number place) = (Refused number place, refl)
 
 pub step-says : (v : Verdict) (s : Step) → (r : StepAnswer) × (stepTells r ≡ tell v (stepValues s))
 unfolding stepTells tell

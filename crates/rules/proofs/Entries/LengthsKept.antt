@@ -10,7 +10,7 @@ use Rattle.rules.specs.Limits.{fileLength, tablesLength, mostHops, trail
 use Rattle.rules.specs.File.{Set, encode, headerOf, setOf}
 use Rattle.rules.specs.Distance.{tableBytes}
 use Rattle.rules.specs.Forwarding.{faultOf, up, hops, trail, runUnder}
-use Rattle.rules.specs.Judgement.{check}
+use Rattle.rules.specs.Judgement.{takeSet}
 use Rattle.rules.specs.Report.{reportText}
 use Rattle.rules.specs.Entries.Lists.{Lists}
 use Rattle.rules.specs.Entries.Read.{listsWith, readEntry}
@@ -24,7 +24,7 @@ use Rattle.rules.proofs.Ground.Choices.{then-first, then-second}
 use Rattle.rules.proofs.Ground.Rows.{length-laid}
 use Rattle.rules.proofs.File.Encoded.{encode-long}
 use Rattle.rules.proofs.File.SetOfBytes.{a-long, b-long, weights-long, homes-long, rows-long}
-use Rattle.rules.proofs.File.Checked.{checked-set}
+use Rattle.rules.proofs.File.TakenIn.{set-accepted}
 use Rattle.rules.proofs.Forwarding.Runs.{always-bounded}
 use Rattle.rules.proofs.Forwarding.LentTables.{bytes-long}
 use Rattle.rules.proofs.Refusals.Needs.{lists-long, room-long, packet-needed}
@@ -69,11 +69,11 @@ unfolding reportEntry
 report-kept s room e = ap (λ (x : ℕ). x ∷ []) (length-laid (reportText (setOf s)) room (room-long (length (reportText (setOf s))) room (then-second _ _ e)))
 
 -- a run visits at most 2n - 2 nodes
-trail-few : (i : RunInput) → check (i .file) ≡ Accepted → i .source < headerOf (i .file) .n → i .destination < headerOf (i .file) .n
+trail-few : (i : RunInput) → takeSet (i .file) ≡ Accepted → i .source < headerOf (i .file) .n → i .destination < headerOf (i .file) .n
     → length (trail (i .source) (runOf i)) ≤ trailRoom (headerOf (i .file))
 unfolding setOf runOf runUnder trail hops mostHops trailRoom
 trail-few i e u t =
-    let A = checked-set (i .file) e in
+    let A = set-accepted (i .file) e in
     let b = always-bounded (setOf (i .file)) A (up (setOf (i .file)) (faultOf (i .failure))) (i .source) (i .destination) u t .few in
     let n = A .rules .limits .nodes .0 in
     omega arith

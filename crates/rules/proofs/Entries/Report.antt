@@ -15,7 +15,7 @@ use Rattle.rules.specs.Sets.{Bytes}
 use Rattle.rules.specs.Demands.Form.{AcceptsExactly, ThenGives, IsLength, Front}
 use Rattle.rules.specs.Demands.Detections.{ReportMeets, ReportGives, ReportFits}
 use Rattle.rules.proofs.Ground.Choices.{then-both, then-first, then-second}
-use Rattle.rules.proofs.File.AcceptedFile.{file-checked, its-set, accepted-file}
+use Rattle.rules.proofs.File.AcceptedFile.{file-taken, its-set, accepted-file}
 use Rattle.rules.proofs.Report.TextLength.{report-longest}
 use Rattle.rules.proofs.Entries.Answering.{told, left, accepts, front-laid, length-values, length-is}
 use Rattle.rules.proofs.Refusals.Needs.{room-ok, room-long}
@@ -23,7 +23,7 @@ use Rattle.rules.proofs.Refusals.Needs.{room-ok, room-long}
 report-meets : (S : Set) (s lent : List ℕ) → ReportMeets S s lent → reportEntry .verdict s lent ≡ Accepted
 unfolding reportEntry
 report-meets S s lent M =
-    let checked = file-checked S s (M .file) in
+    let taken = file-taken S s (M .file) in
     let room = ap (λ (T : Set). needRoom (length (reportText T)) lent) (its-set S s (M .file)) ∙ room-ok (length (reportText S)) lent (M .room) in
     search then-both
 

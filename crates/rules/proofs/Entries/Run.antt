@@ -27,7 +27,7 @@ use Rattle.rules.specs.Demands.Delivery.{Tolerated}
 use Rattle.rules.specs.Demands.Run.{RunMeets, RunGives, DeliveredByRun}
 use Rattle.rules.proofs.Ground.Choices.{then-ok, then-first, then-second}
 use Rattle.rules.proofs.Ground.Rows.{laid-front}
-use Rattle.rules.proofs.File.AcceptedFile.{file-checked, its-set, accepted-file}
+use Rattle.rules.proofs.File.AcceptedFile.{file-taken, its-set, accepted-file}
 use Rattle.rules.proofs.Forwarding.Runs.{starts}
 use Rattle.rules.proofs.Forwarding.Delivery.{delivery}
 use Rattle.rules.proofs.Forwarding.LentTables.{lent-agree, run-same}
@@ -50,7 +50,7 @@ own-set S i d M = its-set S (i .file) (M .file)
 held-meets : (i : RunInput) (d : RunLent) → RunMeets (setOf (i .file)) i d → runEntry .verdict i d ≡ Accepted
 unfolding runEntry setOf
 held-meets i d M =
-    then-ok _ _ (file-checked (setOf (i .file)) (i .file) (M .file))
+    then-ok _ _ (file-taken (setOf (i .file)) (i .file) (M .file))
     ∙ then-ok _ _ (packet-given (headerOf (i .file)) (packet (i .source) (i .destination) 0) (i .failure)
     (record { place = M .source; destination = M .destination; topology = omega arith; failure = M .failure }))
     ∙ then-ok _ _ (source-given (i .source) (i .failure) (M .standing))

@@ -26,7 +26,7 @@ use Rattle.rules.proofs.Ground.Choices.{if-yes, if-no, then-both, then-
 use Rattle.rules.proofs.Ground.Rows.{getD-laid, laid-rest}
 use Rattle.rules.proofs.Ground.Square.{tables-long, inside, entry-at, last-at}
 use Rattle.rules.proofs.File.SetOfBytes.{net-held}
-use Rattle.rules.proofs.File.AcceptedFile.{file-checked, its-header, its-set, accepted-file}
+use Rattle.rules.proofs.File.AcceptedFile.{file-taken, its-header, its-set, accepted-file}
 use Rattle.rules.proofs.Distance.NextHops.{least-next-hops, nearest-alternates}
 use Rattle.rules.proofs.Entries.Answering.{told, left, accepts, length-values, length-is}
 use Rattle.rules.proofs.Refusals.Needs.{room-ok, room-long}
@@ -34,7 +34,7 @@ use Rattle.rules.proofs.Refusals.Needs.{room-ok, room-long}
 pub tables-meets : (S : Set) (s lent : List ℕ) → TablesMeet S s lent → tablesEntry .verdict s lent ≡ Accepted
 unfolding tablesEntry
 tables-meets S s lent M =
-    let checked = file-checked S s (M .file) in
+    let taken = file-taken S s (M .file) in
     let room = ap (λ (h : Network). needRoom (tablesLength h) lent) (its-header S s (M .file)) ∙ room-ok (tablesLength (S .net)) lent (M .room) in
     search then-both
 

@@ -23,14 +23,13 @@ use Rattle.rules.specs.File.{Set, headerOf, setOf}
 use Rattle.rules.specs.Isolation.{neighbours, home}
 use Rattle.rules.specs.Forwarding.{faultOf, up, Tables, tablesOf, packet, moveOrDrop, changeTo, blocked, toward, step, alternateNumber, changeNumber, towardNumber, lookupNumber, Run, stop, letter, onward, afterStep, run, runUnder}
 use Rattle.rules.specs.Building.{built}
-use Rattle.rules.specs.Judgement.{refuse, judge, needSet, check, needPacket, needSource, needRoom}
+use Rattle.rules.specs.Judgement.{refuse, judge, takeIn, needSet, takeSet, needPacket, needSource, needRoom}
 use Rattle.rules.specs.Report.{reportText}
 use Rattle.rules.specs.Answers.{headerValues, outcomeValue, packetValues, stepValues}
 use Rattle.rules.specs.Entries.Entry.{NothingLent}
 use Rattle.rules.specs.Entries.Lists.{Lists}
 use Rattle.rules.specs.Entries.Read.{readEntry}
 use Rattle.rules.specs.Entries.Write.{WriteInput, writeEntry}
-use Rattle.rules.specs.Entries.Check.{checkEntry}
 use Rattle.rules.specs.Entries.Build.{BuildInput, builtFrom, buildEntry}
 use Rattle.rules.specs.Entries.Tables.{tablesEntry}
 use Rattle.rules.specs.Entries.Step.{StepInput, lookupsOf, stepOf, stepEntry}
@@ -41,7 +40,7 @@ use Rattle.rules.proofs.Ground.Choices.{if-yes, if-no, need-ok, refuse-
 use Rattle.rules.proofs.File.SetOfBytes.{net-held}
 use Rattle.rules.proofs.File.Records.{counts-ok}
 use Rattle.rules.proofs.File.Accepted.{judged, length-bound}
-use Rattle.rules.proofs.File.Checked.{checked-set}
+use Rattle.rules.proofs.File.TakenIn.{taken-published, set-accepted}
 use Rattle.rules.proofs.Isolation.HomesAndRows.{homes-all}
 use Rattle.rules.proofs.Isolation.Links.{neighbours-below}
 use Rattle.rules.proofs.Forwarding.Runs.{Within, Advance, Good, good-step, always-bounded}
@@ -62,12 +61,12 @@ length-below : (bytes : ℕ) → bytes ≤ 34816 → Below (9223372036854775808 
 unfolding Below
 length-below bytes l = (omega arith, tt)
 
--- ---- read, write, check, build, tables, report
+-- ---- read, write, build, tables, report
 
 pub read-below : (s : List ℕ) (before : Lists) → readEntry .verdict s before ≡ Accepted → Below (256 ∷ 65536 ∷ 256 ∷ 65536 ∷ []) (readEntry .gives s before)
 unfolding readEntry Below headerValues
 read-below s before e =
-    let L = judged s (then-first (judge s) _ e) .rules .limits in
+    let L = taken-published s (then-first (takeIn s) _ e) .rules .limits in
     let n : headerOf s .n ≤ 32 = rw (net-held s) at (L .nodes .1) in
     let m : headerOf s .m ≤ 128 = rw (net-held s) at (L .links .1) in
     let k : headerOf s .k ≤ 32 = rw (net-held s) at (L .topologies .0) in
@@ -79,10 +78,6 @@ unfolding writeEntry
 write-below i before e =
     let W = counts-ok (i .net) 0 (refuse-zero (needCounts (i .net) 0) 0 (then-first (refuse (needCounts (i .net) 0) 0) _ e)) .0 in
     length-below (fileLength (i .net)) (omega (arith, length-bound (i .net) W))
-
-pub check-below : (s : List ℕ) (before : NothingLent) → checkEntry .verdict s before ≡ Accepted → Below [] (checkEntry .gives s before)
-unfolding checkEntry Below
-check-below s before e = tt
 
 pub build-below : (i : BuildInput) (before : List ℕ) → buildEntry .verdict i before ≡ Accepted → Below (9223372036854775808 ∷ []) (buildEntry .gives i before)
 unfolding buildEntry builtFrom
@@ -104,13 +99,13 @@ longest-tables h w =
 pub tables-below : (s before : List ℕ) → tablesEntry .verdict s before ≡ Accepted → Below (9223372036854775808 ∷ []) (tablesEntry .gives s before)
 unfolding tablesEntry
 tables-below s before e =
-    let w : WithinLimits (headerOf s) = rw (net-held s) at (checked-set s (then-first (check s) _ e) .rules .limits) in
+    let w : WithinLimits (headerOf s) = rw (net-held s) at (set-accepted s (then-first (takeSet s) _ e) .rules .limits) in
     length-below (tablesLength (headerOf s)) (longest-tables (headerOf s) w)
 
 pub report-below : (s before : List ℕ) → reportEntry .verdict s before ≡ Accepted → Below (9223372036854775808 ∷ []) (reportEntry .gives s before)
 unfolding reportEntry reportRoom
 report-below s before e =
-    length-below (length (reportText (setOf s))) (omega (arith, report-longest (setOf s) (checked-set s (then-first (check s) _ e))))
+    length-below (length (reportText (setOf s))) (omega (arith, report-longest (setOf s) (set-accepted s (then-first (takeSet s) _ e))))
 
 -- ---- step
 
@@ -239,8 +234,8 @@ pub run-below : (i : RunInput) (before : RunLent) → runEntry .verdict i before
 unfolding runEntry runOf runUnder runValues mostHops Below
 run-below i before e =
     let S : Set = setOf (i .file) in
-    let A = checked-set (i .file) (then-first (check (i .file)) _ e) in
-    let a = then-second (check (i .file)) _ e in
+    let A = set-accepted (i .file) (then-first (takeSet (i .file)) _ e) in
+    let a = then-second (takeSet (i .file)) _ e in
     let W = packet-within (i .file) (packet (i .source) (i .destination) 0) (i .failure) (then-first (needPacket (headerOf (i .file)) (packet (i .source) (i .destination) 0) (i .failure)) _ a) in
     let on = up S (faultOf (i .failure)) in
     let n = A .rules .limits .nodes .1 in

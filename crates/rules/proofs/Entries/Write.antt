@@ -8,17 +8,17 @@ use Rattle.rules.specs.declared.LengthAnswer.the-variants as long
 use Rattle.rules.specs.Basics.{laid}
 use Rattle.rules.specs.Limits.{needCounts, rowWeights, homeRecords, fileLength}
 use Rattle.rules.specs.File.{Set, encode}
-use Rattle.rules.specs.Judgement.{judge}
+use Rattle.rules.specs.Judgement.{takeIn}
 use Rattle.rules.specs.Entries.Lists.{Lists, LongLists}
 use Rattle.rules.specs.Entries.Write.{WriteInput, setWith, writeEntry}
-use Rattle.rules.specs.Sets.{MeetsRules}
+use Rattle.rules.specs.Sets.{Published}
 use Rattle.rules.specs.Demands.Form.{AcceptsExactly, ThenGives, IsLength, Front}
 use Rattle.rules.specs.Demands.Two.{cutTo, WriteMeets, WriteGives}
 use Rattle.rules.proofs.Ground.Choices.{refuse-ok, then-both, then-first, then-second}
 use Rattle.rules.proofs.Ground.Rows.{upTo-take}
 use Rattle.rules.proofs.File.Records.{counts-on}
 use Rattle.rules.proofs.File.WithinCounts.{front, within, same-set, encode-within, set-of-encode}
-use Rattle.rules.proofs.File.Accepted.{judged, encode-accepted}
+use Rattle.rules.proofs.File.TakenIn.{taken-published, encode-taken}
 use Rattle.rules.proofs.Entries.Answering.{told, left, accepts, front-laid, length-values, length-is}
 use Rattle.rules.proofs.Refusals.Needs.{lists-long, long-lists, room-ok, room-long}
 
@@ -34,19 +34,19 @@ within-cut h d l =
     (upTo-take (d .rows) (h .k * rowWeights h) 0 (l .rows))
 
 -- entries past the counts are not written
-encode-cut : (h : Network) (d : Lists) → LongLists h d → encode (setWith h d) ≡ encode (cutTo h d)
+pub encode-cut : (h : Network) (d : Lists) → LongLists h d → encode (setWith h d) ≡ encode (cutTo h d)
 encode-cut h d l = sym (encode-within (setWith h d)) ∙ ap encode (within-cut h d l)
 
-cut-meets : (h : Network) (d : Lists) → LongLists h d → judge (encode (setWith h d)) ≡ Accepted → MeetsRules (cutTo h d)
-cut-meets h d l e = subst MeetsRules (set-of-encode (setWith h d) ∙ within-cut h d l) (judged (encode (setWith h d)) e .rules)
+cut-meets : (h : Network) (d : Lists) → LongLists h d → takeIn (encode (setWith h d)) ≡ Accepted → Published (cutTo h d)
+cut-meets h d l e = subst Published (set-of-encode (setWith h d) ∙ within-cut h d l) (taken-published (encode (setWith h d)) e)
 
 write-meets : (S : Set) (i : WriteInput) (room : List ℕ) → WriteMeets S i room → writeEntry .verdict i room ≡ Accepted
 unfolding writeEntry
 write-meets S i room M =
     let counted = sym (refuse-ok (needCounts (i .net) 0) 0 (counts-on (i .net) 0 (M .limits))) in
     let long = M .lists in
-    let file : judge (encode (setWith (i .net) (i .lists))) ≡ Accepted =
-    ap judge (encode-cut (i .net) (i .lists) (M .lists) ∙ ap encode (sym (M .set))) ∙ encode-accepted S (M .rules)
+    let file : takeIn (encode (setWith (i .net) (i .lists))) ≡ Accepted =
+    ap takeIn (encode-cut (i .net) (i .lists) (M .lists) ∙ ap encode (sym (M .set))) ∙ encode-taken S (M .published)
     in
     let room = room-ok (fileLength (i .net)) room (M .room) in
     search (then-both, long-lists)
@@ -62,7 +62,7 @@ write-accepts =
         let l = lists-long _ (i .net) (i .lists) (then-first _ _ rest) in
         let R = cut-meets (i .net) (i .lists) l (then-first _ _ (then-second _ _ rest)) in (
           cutTo (i .net) (i .lists),
-          record { limits = R .limits; lists = l; set = refl; rules = R; room = room-long (fileLength (i .net)) room (then-second _ _ (then-second _ _ rest)) },
+          record { limits = R .rules .limits; lists = l; set = refl; published = R; room = room-long (fileLength (i .net)) room (then-second _ _ (then-second _ _ rest)) },
         )
 
 pub write-gives : ThenGives writeEntry WriteMeets WriteGives

@@ -11,12 +11,12 @@ use Rattle.rules.specs.declared.LengthAnswer.the-variants as long
 use Rattle.rules.specs.Limits.{rowWeights, homeRecords, fileLength}
 use Rattle.rules.specs.File.{Set, encode}
 use Rattle.rules.specs.Entries.Lists.{Lists, LongLists}
-use Rattle.rules.specs.Sets.{WithinLimits, MeetsRules}
+use Rattle.rules.specs.Sets.{WithinLimits, MeetsRules, PublishedFile}
 use Rattle.rules.specs.Demands.Form.{Front}
 use Rattle.rules.specs.Demands.Two.{ReadGives, cutTo, SameBytes, SameLists, ReadsBack}
 use Rattle.rules.proofs.File.Encoded.{encode-long}
 use Rattle.rules.proofs.File.WithinCounts.{same-set}
-use Rattle.rules.proofs.Entries.Read.{read-accepts, read-gives}
+use Rattle.rules.proofs.Entries.Read.{only-file, read-accepts, read-gives}
 use Rattle.rules.proofs.Entries.Write.{write-accepts, write-gives}
 
 same-counts : (h h′ : Network) → read.Read h ≡ read.Read h′ → h ≡ h′
@@ -76,7 +76,7 @@ pub same-bytes : SameBytes
 same-bytes s small before after h P room written r enough Q =
     let M = read-accepts s before after (read.Read h) small P .0 (h, refl) in
     let S = M .0 in
-    let R = M .1 .file .rules in
+    let R = M .1 .file .published .rules in
     let G = read-gives S s before after (read.Read h) P (M .1) in
     let e : h ≡ S .net = same-counts h (S .net) (G .answer) in
     let bytes : length s ≡ fileLength (S .net) = ap length (sym (M .1 .file .bytes)) ∙ encode-long S in
@@ -85,7 +85,7 @@ same-bytes s small before after h P room written r enough Q =
       limits = subst WithinLimits (sym e) (R .limits);
       lists = subst (λ (g : Network). LongLists g after) (sym e) (lists-long S R s before after (read.Read h) G);
       set = lists-hold S R s before after (read.Read h) G ∙ ap (λ (g : Network). cutTo g after) (sym e);
-      rules = R;
+      published = M .1 .file .published;
       room = omega (arith, ap fileLength e);
     })
     in
@@ -98,14 +98,15 @@ unfolding cutTo
 reads-back h d room written bytes P before after r room-enough Q =
     let M = write-accepts (record { net = h; lists = d }) room written (long.Length bytes) tt P .0 (bytes, refl) in
     let S = M .0 in
-    let R = M .1 .rules in
+    let R = M .1 .published .rules in
     let W = write-gives S (record { net = h; lists = d }) room written (long.Length bytes) P (M .1) in
     let e : S .net ≡ h = ap (λ (T : Set). T .net) (M .1 .set) in
     let file : encode S ≡ take bytes written =
     sym (ap (λ (x : ℕ). take x written) (same-length bytes (fileLength (S .net)) (W .answer) ∙ sym (encode-long S)) ∙ W .file .is)
     in
+    let F : PublishedFile S (take bytes written) = record { published = M .1 .published; bytes = file } in
     let G = read-gives S (take bytes written) before after r Q
-    (record { file = record { rules = R; bytes = file }; room = subst (λ (g : Network). LongLists g before) (sym e) room-enough })
+    (record { file = F; only = λ S′ F′. only-file S S′ (take bytes written) F F′; room = subst (λ (g : Network). LongLists g before) (sym e) room-enough })
     in (
       G .answer ∙ ap read.Read e,
       subst (λ (g : Network). SameLists g after d) e (same-lists S R (take bytes written) before after r G d (M .1 .set ∙ ap (λ (g : Network). cutTo g d) (sym e))),

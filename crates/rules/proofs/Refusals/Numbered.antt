@@ -13,7 +13,6 @@ use Rattle.rules.specs.Entries.Entry.{NothingLent}
 use Rattle.rules.specs.Entries.Lists.{Lists}
 use Rattle.rules.specs.Entries.Read.{readEntry}
 use Rattle.rules.specs.Entries.Write.{WriteInput, writeEntry}
-use Rattle.rules.specs.Entries.Check.{checkEntry}
 use Rattle.rules.specs.Entries.Build.{BuildInput, buildEntry}
 use Rattle.rules.specs.Entries.Tables.{tablesEntry}
 use Rattle.rules.specs.Entries.Step.{StepInput, stepEntry}
@@ -21,9 +20,9 @@ use Rattle.rules.specs.Entries.Run.{RunInput, RunLent, runEntry}
 use Rattle.rules.specs.Entries.Report.{reportEntry}
 use Rattle.rules.specs.Sets.{WithinLimits}
 use Rattle.rules.specs.Demands.One.{InTable, Numbered}
-use Rattle.rules.specs.Refusals.{RecordFault, link-mark, home-mark, row-mark, link-ends, link-weight, row-weight, home-wrong, row-topology, FileFault, under, other-length, header-mark, counts, in-record, TopologyFault, backbone-apart, too-few, ReadFault, WriteFault, CheckFault, BuildFault, TablesFault, StepFault, RunFault, ReportFault}
+use Rattle.rules.specs.Refusals.{RecordFault, link-mark, home-mark, row-mark, link-ends, link-weight, row-weight, home-wrong, row-topology, FileFault, under, other-length, header-mark, counts, in-record, TopologyFault, backbone-apart, too-few, IntakeFault, SetFault, ReadFault, WriteFault, BuildFault, TablesFault, StepFault, RunFault, ReportFault}
 use Rattle.rules.proofs.File.Accepted.{length-bound}
-use Rattle.rules.proofs.Refusals.Refusing.{Says, read-refuses, write-refuses, check-refuses, tables-refuses, report-refuses, run-refuses, step-refuses, build-refuses}
+use Rattle.rules.proofs.Refusals.Refusing.{Says, read-refuses, write-refuses, tables-refuses, report-refuses, run-refuses, step-refuses, build-refuses}
 
 pub longest-is : longest .file ≡ 9192
 unfolding longest fileLength rowPlace homePlace linkPlace homeRecords rowLength rowWeights need
@@ -83,10 +82,13 @@ topology-listed : (S : Set) → S .net .k ≤ 32 → (number place : ℕ) → To
 topology-listed S k number place (backbone-apart i one high f) = record { low = omega arith; high = omega arith; inside = omega (arith, longest-is) }
 topology-listed S k number place (too-few i v one high l e f) = record { low = omega arith; high = omega arith; inside = omega (arith, longest-is) }
 
-check-listed : (s : List ℕ) (number place : ℕ) → CheckFault s number place → InTable number place
-check-listed s number place (CheckFault.file f) = file-listed s number place f
-check-listed s number place (CheckFault.graph f) = whole 13 (omega arith) (omega arith)
-check-listed s number place (CheckFault.topology R f) = topology-listed (setOf s) (R .limits .topologies .0) number place f
+intake-listed : (s : List ℕ) (number place : ℕ) → IntakeFault s number place → InTable number place
+intake-listed s number place (IntakeFault.file f) = file-listed s number place f
+intake-listed s number place (IntakeFault.topology R f) = topology-listed (setOf s) (R .limits .topologies .0) number place f
+
+set-listed : (s : List ℕ) (number place : ℕ) → SetFault s number place → InTable number place
+set-listed s number place (SetFault.intake f) = intake-listed s number place f
+set-listed s number place (SetFault.graph f) = whole 13 (omega arith) (omega arith)
 
 -- ---- the entries
 
@@ -98,7 +100,7 @@ pub read-numbered : (s : List ℕ) (before : Lists) → Numbered (readEntry .ver
 read-numbered s before = numbered _ (ReadFault s before) (read-refuses s before) listed
   where
     listed : (number place : ℕ) → ReadFault s before number place → InTable number place
-    listed number place (ReadFault.file f) = file-listed s number place f
+    listed number place (ReadFault.intake f) = intake-listed s number place f
     listed number place (ReadFault.room f) = whole 14 (omega arith) (omega arith)
 
 pub write-numbered : (i : WriteInput) (before : List ℕ) → Numbered (writeEntry .verdict i before)
@@ -107,17 +109,14 @@ write-numbered i before = numbered _ (WriteFault i before) (write-refuses i befo
     listed : (number place : ℕ) → WriteFault i before number place → InTable number place
     listed number place (WriteFault.counts f) = whole 3 (omega arith) (omega arith)
     listed number place (WriteFault.lists f) = whole 1 (omega arith) (omega arith)
-    listed number place (WriteFault.file f) = file-listed _ number place f
+    listed number place (WriteFault.intake f) = intake-listed _ number place f
     listed number place (WriteFault.room f) = whole 14 (omega arith) (omega arith)
-
-pub check-numbered : (s : List ℕ) (before : NothingLent) → Numbered (checkEntry .verdict s before)
-check-numbered s before = numbered _ (CheckFault s) (check-refuses s before) (check-listed s)
 
 pub build-numbered : (i : BuildInput) (before : List ℕ) → Numbered (buildEntry .verdict i before)
 build-numbered i before = numbered _ (BuildFault i before) (build-refuses i before) listed
   where
     listed : (number place : ℕ) → BuildFault i before number place → InTable number place
-    listed number place (BuildFault.file f) = file-listed (i .file) number place f
+    listed number place (BuildFault.intake f) = intake-listed (i .file) number place f
     listed number place (BuildFault.set f) = whole 13 (omega arith) (omega arith)
     listed number place (BuildFault.cap f) = whole 11 (omega arith) (omega arith)
     listed number place (BuildFault.nine f) = whole 9 (omega arith) (omega arith)
@@ -128,7 +127,7 @@ pub tables-numbered : (s before : List ℕ) → Numbered (tablesEntry .verdict s
 tables-numbered s before = numbered _ (TablesFault s before) (tables-refuses s before) listed
   where
     listed : (number place : ℕ) → TablesFault s before number place → InTable number place
-    listed number place (TablesFault.check f) = check-listed s number place f
+    listed number place (TablesFault.set f) = set-listed s number place f
     listed number place (TablesFault.room f) = whole 14 (omega arith) (omega arith)
 
 pub step-numbered : (i : StepInput) (before : NothingLent) → Numbered (stepEntry .verdict i before)
@@ -146,7 +145,7 @@ pub run-numbered : (i : RunInput) (before : RunLent) → Numbered (runEntry .ver
 run-numbered i before = numbered _ (RunFault i before) (run-refuses i before) listed
   where
     listed : (number place : ℕ) → RunFault i before number place → InTable number place
-    listed number place (RunFault.check f) = check-listed (i .file) number place f
+    listed number place (RunFault.set f) = set-listed (i .file) number place f
     listed number place (RunFault.range f) = whole 11 (omega arith) (omega arith)
     listed number place (RunFault.stopped f) = whole 12 (omega arith) (omega arith)
     listed number place (RunFault.tables f) = whole 14 (omega arith) (omega arith)
@@ -156,5 +155,5 @@ pub report-numbered : (s before : List ℕ) → Numbered (reportEntry .verdict s
 report-numbered s before = numbered _ (ReportFault s before) (report-refuses s before) listed
   where
     listed : (number place : ℕ) → ReportFault s before number place → InTable number place
-    listed number place (ReportFault.check f) = check-listed s number place f
+    listed number place (ReportFault.set f) = set-listed s number place f
     listed number place (ReportFault.room f) = whole 14 (omega arith) (omega arith)

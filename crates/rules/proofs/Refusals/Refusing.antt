@@ -20,13 +20,12 @@ use Rattle.rules.specs.File.{Set, encode, headerOf, endA, endB, linkWeig
 use Rattle.rules.specs.Isolation.{neighbours, home, isolated, backbone, classBy, weightFits, connected, restrictedLinks, twoLinks, topologyNumber}
 use Rattle.rules.specs.Forwarding.{faultOf, up, Tables, lentTables, packet, alternateNumber, changeNumber, towardNumber, lookupNumber}
 use Rattle.rules.specs.Building.{fits, built, spared, buildNumber}
-use Rattle.rules.specs.Judgement.{refuse, andThen, inTurn, needMark, headerNumber, rises, linkNumber, homeNumber, rowWeightFits, rowNumber, records, judge, needSet, needGraph, topologies, check, needFailure, needPacket, needCap, needFit, sourceNumber, needSource, needRoom}
+use Rattle.rules.specs.Judgement.{refuse, andThen, inTurn, needMark, headerNumber, rises, linkNumber, homeNumber, rowWeightFits, rowNumber, records, judge, topologies, takeIn, needSet, needGraph, takeSet, needFailure, needPacket, needCap, needFit, sourceNumber, needSource, needRoom}
 use Rattle.rules.specs.Report.{reportText}
 use Rattle.rules.specs.Entries.Entry.{Entry, NothingLent}
 use Rattle.rules.specs.Entries.Lists.{Lists, needLists, LongLists}
 use Rattle.rules.specs.Entries.Read.{readEntry}
 use Rattle.rules.specs.Entries.Write.{WriteInput, setWith, writeEntry}
-use Rattle.rules.specs.Entries.Check.{checkEntry}
 use Rattle.rules.specs.Entries.Build.{BuildInput, builtFrom, buildEntry}
 use Rattle.rules.specs.Entries.Tables.{tablesEntry}
 use Rattle.rules.specs.Entries.Step.{StepInput, lookupsOf, stepEntry}
@@ -35,11 +34,12 @@ use Rattle.rules.specs.Entries.Report.{reportEntry}
 use Rattle.rules.specs.Sets.{WithinLimits, MeetsRules}
 use Rattle.rules.specs.Demands.Step.{InRange, Standing, LooksUp}
 use Rattle.rules.specs.Demands.Building.{Removable, topologiesNeeded, withTopologies}
-use Rattle.rules.specs.Refusals.{EndsInOrder, RowFits, RecordFault, link-mark, home-mark, row-mark, link-ends, link-weight, row-weight, home-wrong, row-topology, FileFault, under, other-length, header-mark, counts, in-record, TopologyFault, backbone-apart, too-few, Known, ReadFault, WriteFault, CheckFault, BuildFault, TablesFault, StepFault, RunFault, ReportFault, SaysSo, RefusalsSaySo}
+use Rattle.rules.specs.Refusals.{EndsInOrder, RowFits, RecordFault, link-mark, home-mark, row-mark, link-ends, link-weight, row-weight, home-wrong, row-topology, FileFault, under, other-length, header-mark, counts, in-record, TopologyFault, backbone-apart, too-few, Known, IntakeFault, SetFault, ReadFault, WriteFault, BuildFault, TablesFault, StepFault, RunFault, ReportFault, SaysSo, RefusalsSaySo}
 use Rattle.rules.proofs.Ground.Choices.{and-of, and-right, or-left, or-right, clash, true-of, refuse-zero}
 use Rattle.rules.proofs.Ground.Numbers.{all-of, of-two}
 use Rattle.rules.proofs.File.Records.{header-meets, after-of}
 use Rattle.rules.proofs.File.Accepted.{judged}
+use Rattle.rules.proofs.File.TakenIn.{taken-file}
 use Rattle.rules.proofs.Isolation.Homes.{backbone-node}
 use Rattle.rules.proofs.Isolation.Connected.{joined-connected}
 use Rattle.rules.proofs.Building.BuiltBy.{built-net}
@@ -341,24 +341,29 @@ lookup-tells S tables on p P f = go (lookupNumber S tables on p) refl (lookup-or
 -- ---- each entry
 
 -- from the verdict to what the answer tells
-says-so : {Input Lent Answer : Type 0} (E : Entry Input Lent Answer) (Fault : Input → Lent → ℕ → ℕ → Type 0)
+pub says-so : {Input Lent Answer : Type 0} (E : Entry Input Lent Answer) (Fault : Input → Lent → ℕ → ℕ → Type 0)
     → ((i : Input) (before : Lent) → Says (E .verdict i before) (Fault i before)) → SaysSo E Fault
 says-so E Fault f i before after r number place P e =
     f i before number place (tells-refused (E .verdict i before) (E .gives i before) number place (sym e ∙ P .answer))
 
-check-says : (s : List ℕ) → Says (check s) (CheckFault s)
-unfolding check
-check-says s =
-    let P = CheckFault s in
-    then-says P _ _ (says-map P (FileFault s) (judge s) (λ x y q. CheckFault.file q) (judge-says s))
-    (λ a. then-says P _ _ (set-says P (headerOf s) CheckFault.graph)
-    (λ b. says-map P (TopologyFault (setOf s)) (topologies (setOf s)) (λ x y q. CheckFault.topology (judged s a .rules) q) (topologies-say (setOf s))))
+intake-says : (s : List ℕ) → Says (takeIn s) (IntakeFault s)
+unfolding takeIn
+intake-says s =
+    let P = IntakeFault s in
+    then-says P _ _ (says-map P (FileFault s) (judge s) (λ x y q. IntakeFault.file q) (judge-says s))
+    (λ a. says-map P (TopologyFault (setOf s)) (topologies (setOf s)) (λ x y q. IntakeFault.topology (judged s a .rules) q) (topologies-say (setOf s)))
+
+set-taken-says : (s : List ℕ) → Says (takeSet s) (SetFault s)
+unfolding takeSet
+set-taken-says s =
+    let P = SetFault s in
+    then-says P _ _ (says-map P (IntakeFault s) (takeIn s) (λ x y q. SetFault.intake q) (intake-says s)) (λ a. set-says P (headerOf s) SetFault.graph)
 
 pub read-refuses : (s : List ℕ) (d : Lists) → Says (readEntry .verdict s d) (ReadFault s d)
 unfolding readEntry
 read-refuses s d =
     let P = ReadFault s d in
-    then-says P _ _ (says-map P (FileFault s) (judge s) (λ x y q. ReadFault.file q) (judge-says s)) (λ a. lists-say P 14 (headerOf s) d ReadFault.room)
+    then-says P _ _ (says-map P (IntakeFault s) (takeIn s) (λ x y q. ReadFault.intake q) (intake-says s)) (λ a. lists-say P 14 (headerOf s) d ReadFault.room)
 
 pub write-refuses : (i : WriteInput) (lent : List ℕ) → Says (writeEntry .verdict i lent) (WriteFault i lent)
 unfolding writeEntry
@@ -367,31 +372,26 @@ write-refuses i lent =
     let s : List ℕ = encode (setWith (i .net) (i .lists)) in
     then-says P _ _ (refuse-says P (needCounts (i .net) 0) 0 (counts-fail (i .net) 0 (λ x. P x 0) WriteFault.counts (nothing-told (λ x. P x 0))))
     (λ a. then-says P _ _ (lists-say P 1 (i .net) (i .lists) WriteFault.lists)
-    (λ b. then-says P _ _ (says-map P (FileFault s) (judge s) (λ x y q. WriteFault.file q) (judge-says s))
+    (λ b. then-says P _ _ (says-map P (IntakeFault s) (takeIn s) (λ x y q. WriteFault.intake q) (intake-says s))
     (λ c. room-says P (fileLength (i .net)) lent WriteFault.room)))
-
-pub check-refuses : (s : List ℕ) (d : NothingLent) → Says (checkEntry .verdict s d) (CheckFault s)
-unfolding checkEntry
-check-refuses s d =
-    check-says s
 
 pub tables-refuses : (s : List ℕ) (lent : List ℕ) → Says (tablesEntry .verdict s lent) (TablesFault s lent)
 unfolding tablesEntry
 tables-refuses s lent =
     let P = TablesFault s lent in
-    then-says P _ _ (says-map P (CheckFault s) (check s) (λ x y q. TablesFault.check q) (check-says s)) (λ a. room-says P (tablesLength (headerOf s)) lent TablesFault.room)
+    then-says P _ _ (says-map P (SetFault s) (takeSet s) (λ x y q. TablesFault.set q) (set-taken-says s)) (λ a. room-says P (tablesLength (headerOf s)) lent TablesFault.room)
 
 pub report-refuses : (s : List ℕ) (lent : List ℕ) → Says (reportEntry .verdict s lent) (ReportFault s lent)
 unfolding reportEntry
 report-refuses s lent =
     let P = ReportFault s lent in
-    then-says P _ _ (says-map P (CheckFault s) (check s) (λ x y q. ReportFault.check q) (check-says s)) (λ a. room-says P (length (reportText (setOf s))) lent ReportFault.room)
+    then-says P _ _ (says-map P (SetFault s) (takeSet s) (λ x y q. ReportFault.set q) (set-taken-says s)) (λ a. room-says P (length (reportText (setOf s))) lent ReportFault.room)
 
 pub run-refuses : (i : RunInput) (d : RunLent) → Says (runEntry .verdict i d) (RunFault i d)
 unfolding runEntry
 run-refuses i d =
     let P = RunFault i d in
-    then-says P _ _ (says-map P (CheckFault (i .file)) (check (i .file)) (λ x y q. RunFault.check q) (check-says (i .file)))
+    then-says P _ _ (says-map P (SetFault (i .file)) (takeSet (i .file)) (λ x y q. RunFault.set q) (set-taken-says (i .file)))
     (λ a. then-says P _ _ (packet-says P (headerOf (i .file)) (packet (i .source) (i .destination) 0) (i .failure) RunFault.range)
     (λ b. then-says P _ _ (source-says P (i .source) (i .failure) RunFault.stopped)
     (λ c. then-says P _ _ (room-says P (tablesLength (headerOf (i .file))) (d .tables) RunFault.tables)
@@ -432,11 +432,11 @@ unfolding buildEntry builtFrom
 build-refuses i lent =
     let P = BuildFault i lent in
     let G : Set = setOf (i .file) in
-    then-says P _ _ (says-map P (FileFault (i .file)) (judge (i .file)) (λ x y q. BuildFault.file q) (judge-says (i .file)))
+    then-says P _ _ (says-map P (IntakeFault (i .file)) (takeIn (i .file)) (λ x y q. BuildFault.intake q) (intake-says (i .file)))
     (λ a. then-says P _ _ (graph-says P (headerOf (i .file)) BuildFault.set)
     (λ b. then-says P _ _ (cap-says P (i .cap) BuildFault.cap)
-    (λ c. then-says P _ _ (fit-says P G (i .cap) (judged (i .file) a .rules) BuildFault.nine BuildFault.ten)
-    (λ f. room-says P (fileLength (built G (i .cap) .net)) lent (λ l. BuildFault.room (built-room (i .file) (i .cap) lent a f l))))))
+    (λ c. then-says P _ _ (fit-says P G (i .cap) (judged (i .file) (taken-file (i .file) a) .rules) BuildFault.nine BuildFault.ten)
+    (λ f. room-says P (fileLength (built G (i .cap) .net)) lent (λ l. BuildFault.room (built-room (i .file) (i .cap) lent (taken-file (i .file) a) f l))))))
 
 -- ---- what the answers tell
 
@@ -445,7 +445,6 @@ refusals-say-so =
     record {
       read = says-so readEntry ReadFault read-refuses;
       write = says-so writeEntry WriteFault write-refuses;
-      check = says-so checkEntry (λ s d. CheckFault s) check-refuses;
       build = says-so buildEntry BuildFault build-refuses;
       tables = says-so tablesEntry TablesFault tables-refuses;
       step = says-so stepEntry (λ i d. StepFault i) step-refuses;

@@ -1,12 +1,10 @@
--- What demands 2 and 3 say of an entry: two statements of what it returns, in one form for all eight.
+-- What demands 2 and 3 say of an entry: two statements of what it returns, in one form for all seven.
 use mathlib.Core.Path.{_≡_}
 use mathlib.Core.Logic.{_↔_}
 use mathlib.Core.List.{List}
 use Prim.Native.Nat.{ℕ}
 use lib.ListN.{length, take, drop}
 use Rattle.rules.specs.declared.Network.{Network}
-use Rattle.rules.specs.declared.Verdict.{Verdict}
-use Rattle.rules.specs.declared.Verdict.the-variants.{Accepted}
 use Rattle.rules.specs.declared.Step.{Step}
 use Rattle.rules.specs.declared.StepAnswer.{StepAnswer}
 use Rattle.rules.specs.declared.StepAnswer.the-variants as stepped
@@ -37,9 +35,6 @@ IsRead r = (h : Network) × (r ≡ read.Read h)
 
 abbrev pub IsLength : LengthAnswer → Type 0
 IsLength r = (bytes : ℕ) × (r ≡ long.Length bytes)
-
-abbrev pub IsAccepted : Verdict → Type 0
-IsAccepted r = r ≡ Accepted
 
 abbrev pub IsTaken : StepAnswer → Type 0
 IsTaken r = (s : Step) × (r ≡ stepped.Taken s)

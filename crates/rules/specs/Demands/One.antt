@@ -12,7 +12,6 @@ use Rattle.rules.specs.Entries.Entry.{Entry, Promise, NothingLent}
 use Rattle.rules.specs.Entries.Lists.{Lists}
 use Rattle.rules.specs.Entries.Read.{readEntry}
 use Rattle.rules.specs.Entries.Write.{writeEntry}
-use Rattle.rules.specs.Entries.Check.{checkEntry}
 use Rattle.rules.specs.Entries.Build.{buildEntry}
 use Rattle.rules.specs.Entries.Tables.{tablesEntry}
 use Rattle.rules.specs.Entries.Step.{stepEntry}
@@ -65,7 +64,6 @@ runLengths d = length (d .tables) ∷ length (d .trail) ∷ []
 pub record Demand1 : Type 0 where
   pub read : TakesEveryInput readEntry listLengths
   pub write : TakesEveryInput writeEntry itsLength
-  pub check : TakesEveryInput checkEntry noLengths
   pub build : TakesEveryInput buildEntry itsLength
   pub tables : TakesEveryInput tablesEntry itsLength
   pub step : TakesEveryInput stepEntry noLengths

@@ -1,4 +1,4 @@
--- Demand 2. "A file or set is accepted exactly when it meets the published rules."
+-- Demand 2. "A file or set is accepted exactly when it meets the published rules." Since 02's request h one operation takes in both.
 use mathlib.Core.Path.{_≡_}
 use mathlib.Core.Logic.{_↔_, _⊎_}
 use mathlib.Core.Bool.{true, false}
@@ -16,23 +16,30 @@ use Rattle.rules.specs.File.{Set, encode}
 use Rattle.rules.specs.Isolation.{neighbours, home, rowInForce, hopWeight, usable}
 use Rattle.rules.specs.Distance.{Path, LeastTotal, distance, nextHop, candidate, alternate}
 use Rattle.rules.specs.Forwarding.{entryPlace}
-use Rattle.rules.specs.Judgement.{judge, check}
-use Rattle.rules.specs.Entries.Entry.{Promise, NothingLent}
+use Rattle.rules.specs.Judgement.{judge, takeIn}
+use Rattle.rules.specs.Entries.Entry.{Promise}
 use Rattle.rules.specs.Entries.Lists.{Lists, LongLists}
 use Rattle.rules.specs.Entries.Read.{readEntry}
 use Rattle.rules.specs.Entries.Write.{WriteInput, writeEntry}
-use Rattle.rules.specs.Entries.Check.{checkEntry}
 use Rattle.rules.specs.Entries.Tables.{tablesEntry}
-use Rattle.rules.specs.Sets.{Bytes, WithinLimits, at, MeetsRules, FileOf, AcceptedSet, AcceptedFile}
-use Rattle.rules.specs.Demands.Form.{AcceptsExactly, ThenGives, IsRead, IsLength, IsAccepted, Front}
+use Rattle.rules.specs.Sets.{Bytes, WithinLimits, at, MeetsRules, Published, PublishedFile, AcceptedSet, AcceptedFile}
+use Rattle.rules.specs.Demands.Form.{AcceptsExactly, ThenGives, IsRead, IsLength, Front}
 
 -- ---- files
 
--- bytes are accepted exactly when they are the encoding of a set that meets the rules, and of one only
+-- bytes are taken in exactly when they are the encoding of a graph alone, or of a set, that meets the published rules, those of the backup topologies among them
+abbrev pub TakenInExactly : Type 0
+TakenInExactly = (s : List ℕ) → Bytes s → (takeIn s ≡ Accepted) ↔ ((S : Set) × PublishedFile S s)
+
+-- with a backup topology that is an accepted set
+abbrev pub AcceptedPublished : Type 0
+AcceptedPublished = (S : Set) → AcceptedSet S ↔ (Published S × (1 ≤ S .net .k))
+
+-- the judgement by 1 to 6 alone, on which the step rests: bytes pass it exactly when they are the encoding of a set that meets the rules of the file
 abbrev pub AcceptedExactly : Type 0
 AcceptedExactly = (s : List ℕ) → Bytes s → (judge s ≡ Accepted) ↔ ((S : Set) × MeetsRules S × (encode S ≡ s))
 
--- two sets that meet the rules and are written as the same bytes are one
+-- of one only: two sets that meet the rules of the file and are written as the same bytes are one
 abbrev pub OneSet : Type 0
 OneSet = (S S′ : Set) → MeetsRules S → MeetsRules S′ → encode S ≡ encode S′ → S ≡ S′
 
@@ -70,9 +77,11 @@ FilesLaidOut = (S : Set) → LaidOut S (encode S)
 
 -- ---- read
 
--- read accepts exactly when the bytes are a set's, or a graph's, and every list has room
+-- read, the one operation of 02's request h, takes bytes in exactly when they are the encoding of a graph alone, or of a set, that meets the published rules,
+-- those of the backup topologies among them; of one only; and every list has room
 pub record ReadMeets (S : Set) (s : List ℕ) (d : Lists) : Type 0 where
-  pub file : FileOf S s
+  pub file : PublishedFile S s
+  pub only : (S′ : Set) → PublishedFile S′ s → S′ ≡ S
   pub room : LongLists (S .net) d
 
 -- and then it answers the counts and leaves each list with the set's entries at its front
@@ -98,12 +107,13 @@ cutTo h d =
       rows = take (h .k * rowWeights h) (d .rows);
     }
 
--- write accepts exactly when the counts are within limits, the lists are long enough, the set that they are cut to meets the rules, and its file has room
+-- write accepts exactly when the counts are within limits, the lists are long enough, the graph or set that they are cut to meets the published rules, and its
+-- file has room
 pub record WriteMeets (S : Set) (i : WriteInput) (lent : List ℕ) : Type 0 where
   pub limits : WithinLimits (i .net)
   pub lists : LongLists (i .net) (i .lists)
   pub set : S ≡ cutTo (i .net) (i .lists)
-  pub rules : MeetsRules S
+  pub published : Published S
   pub room : fileLength (i .net) ≤ length lent
 
 -- and then it answers the file's length and leaves the file at the front of the room
@@ -136,16 +146,6 @@ ReadsBack =
     (h : Network) (d : Lists) (room written : List ℕ) (bytes : ℕ) → Promise writeEntry (record { net = h; lists = d }) room (long.Length bytes) written
     → (before after : Lists) (r : ReadAnswer) → LongLists h before → Promise readEntry (take bytes written) before r after
     → (r ≡ read.Read h) × SameLists h after d
-
--- ---- check
-
--- bytes pass the check exactly when they are the encoding of an accepted set
-abbrev pub CheckedExactly : Type 0
-CheckedExactly = (s : List ℕ) → Bytes s → (check s ≡ Accepted) ↔ ((S : Set) × AcceptedSet S × (encode S ≡ s))
-
--- check accepts exactly when the bytes are an accepted set's; it leaves nothing
-abbrev pub CheckMeets : Set → List ℕ → NothingLent → Type 0
-CheckMeets S s d = AcceptedFile S s
 
 -- ---- "Every next hop lies on a path of least total weight, ties to the lower number."
 
@@ -212,15 +212,15 @@ pub record Demand2 : Type 0 where
   pub read-gives : ThenGives readEntry ReadMeets ReadGives
   pub write-accepts : AcceptsExactly writeEntry IsLength (λ i. Unit {0}) WriteMeets
   pub write-gives : ThenGives writeEntry WriteMeets WriteGives
-  pub check-accepts : AcceptsExactly checkEntry IsAccepted Bytes CheckMeets
   pub tables-accepts : AcceptsExactly tablesEntry IsLength Bytes TablesMeet
   pub tables-gives : ThenGives tablesEntry TablesMeet TablesGive
+  pub taken-in-exactly : TakenInExactly
+  pub accepted-published : AcceptedPublished
   pub accepted-exactly : AcceptedExactly
   pub one-set : OneSet
   pub longest-file : LongestFile
   pub same-bytes : SameBytes
   pub reads-back : ReadsBack
-  pub checked-exactly : CheckedExactly
   pub least-distances : LeastDistances
   pub least-next-hops : LeastNextHops
   pub nearest-alternates : NearestAlternates

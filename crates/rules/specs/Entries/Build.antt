@@ -1,4 +1,4 @@
--- The entry `build`: from a graph's file and a cap into a lent file. Refusals 1 to 6, 13, 11, 9, 10, 14.
+-- The entry `build`: from a graph's file and a cap into a lent file. Refusals 1 to 6, 7 and 8 by topology, 13, 11, 9, 10, 14.
 use mathlib.Core.List.{List, [], _∷_}
 use Prim.Native.Nat.{ℕ}
 use Rattle.rules.specs.declared.LengthAnswer.{LengthAnswer}
@@ -6,7 +6,7 @@ use Rattle.rules.specs.Basics.{laid}
 use Rattle.rules.specs.Limits.{fileLength}
 use Rattle.rules.specs.File.{Set, encode, headerOf, setOf}
 use Rattle.rules.specs.Building.{built}
-use Rattle.rules.specs.Judgement.{andThen, judge, needGraph, needCap, needFit, needRoom}
+use Rattle.rules.specs.Judgement.{andThen, takeIn, needGraph, needCap, needFit, needRoom}
 use Rattle.rules.specs.Answers.{lengthTells}
 use Rattle.rules.specs.Entries.Entry.{Entry}
 
@@ -24,7 +24,7 @@ unfoldable pub buildEntry : Entry BuildInput (List ℕ) LengthAnswer
 buildEntry =
     record {
       verdict = λ i file.
-          andThen (judge (i .file))
+          andThen (takeIn (i .file))
           (andThen (needGraph (headerOf (i .file)))
           (andThen (needCap (i .cap))
           (andThen (needFit (setOf (i .file)) (i .cap))

@@ -1,4 +1,4 @@
--- The entry `run`: from a source to a destination under a failure, with lent tables and a lent trail. Refusals 1 to 6, 13, 7 and 8, 11, 12, 14.
+-- The entry `run`: from a source to a destination under a failure, with lent tables and a lent trail. Refusals 1 to 6, 7 and 8 by topology, 13, 11, 12, 14.
 use mathlib.Core.List.{List, [], _∷_}
 use Prim.Native.Nat.{ℕ}
 use Rattle.rules.specs.declared.Failure.{Failure}
@@ -8,7 +8,7 @@ use Rattle.rules.specs.Limits.{tablesLength, trailRoom}
 use Rattle.rules.specs.File.{headerOf, setOf}
 use Rattle.rules.specs.Distance.{tableBytes}
 use Rattle.rules.specs.Forwarding.{faultOf, packet, Run, hops, trail, letter, runUnder}
-use Rattle.rules.specs.Judgement.{andThen, check, needPacket, needSource, needRoom}
+use Rattle.rules.specs.Judgement.{andThen, takeSet, needPacket, needSource, needRoom}
 use Rattle.rules.specs.Answers.{outcomeValue, runTells}
 use Rattle.rules.specs.Entries.Entry.{Entry}
 
@@ -37,7 +37,7 @@ unfoldable pub runEntry : Entry RunInput RunLent RunAnswer
 runEntry =
     record {
       verdict = λ i d.
-          andThen (check (i .file))
+          andThen (takeSet (i .file))
           (andThen (needPacket (headerOf (i .file)) (packet (i .source) (i .destination) 0) (i .failure))
           (andThen (needSource (i .source) (i .failure))
           (andThen (needRoom (tablesLength (headerOf (i .file))) (d .tables))

@@ -1,4 +1,4 @@
--- The entry `tables`: from a file into a lent buffer. Refusals 1 to 6, 13, 7 and 8, 14.
+-- The entry `tables`: from a file into a lent buffer. Refusals 1 to 6, 7 and 8 by topology, 13, 14.
 use mathlib.Core.List.{List, [], _∷_}
 use Prim.Native.Nat.{ℕ}
 use Rattle.rules.specs.declared.LengthAnswer.{LengthAnswer}
@@ -6,7 +6,7 @@ use Rattle.rules.specs.Basics.{laid}
 use Rattle.rules.specs.Limits.{tablesLength}
 use Rattle.rules.specs.File.{headerOf, setOf}
 use Rattle.rules.specs.Distance.{tableBytes}
-use Rattle.rules.specs.Judgement.{andThen, check, needRoom}
+use Rattle.rules.specs.Judgement.{andThen, takeSet, needRoom}
 use Rattle.rules.specs.Answers.{lengthTells}
 use Rattle.rules.specs.Entries.Entry.{Entry}
 
@@ -14,7 +14,7 @@ use Rattle.rules.specs.Entries.Entry.{Entry}
 unfoldable pub tablesEntry : Entry (List ℕ) (List ℕ) LengthAnswer
 tablesEntry =
     record {
-      verdict = λ s d. andThen (check s) (needRoom (tablesLength (headerOf s)) d);
+      verdict = λ s d. andThen (takeSet s) (needRoom (tablesLength (headerOf s)) d);
       tells = lengthTells;
       gives = λ s d. tablesLength (headerOf s) ∷ [];
       leaves = λ s d. laid (tableBytes (setOf s)) d;

@@ -1,5 +1,5 @@
--- The entry `write`: from a header and five lists into a lent file. Refusals 3, 1 for a short list, 4 to 6, 14: "The writer gives the number and place the
--- reader would give for what it would write; [..] a list shorter than the counts need is 1".
+-- The entry `write`: from a header and five lists into a lent file. Refusals 3, 1 for a short list, 4 to 6, 7 and 8 by topology, 14: "The writer gives the
+-- number and place the reader would give for what it would write; [..] a list shorter than the counts need is 1"; "the writer gives 7 and 8 too" (02, h).
 use mathlib.Core.List.{List, [], _∷_}
 use Prim.Native.Nat.{ℕ}
 use Rattle.rules.specs.declared.Network.{Network}
@@ -7,7 +7,7 @@ use Rattle.rules.specs.declared.LengthAnswer.{LengthAnswer}
 use Rattle.rules.specs.Basics.{laid}
 use Rattle.rules.specs.Limits.{needCounts, fileLength}
 use Rattle.rules.specs.File.{Set, encode}
-use Rattle.rules.specs.Judgement.{refuse, andThen, judge, needRoom}
+use Rattle.rules.specs.Judgement.{refuse, andThen, takeIn, needRoom}
 use Rattle.rules.specs.Answers.{lengthTells}
 use Rattle.rules.specs.Entries.Entry.{Entry}
 use Rattle.rules.specs.Entries.Lists.{Lists, needLists}
@@ -28,7 +28,7 @@ writeEntry =
       verdict = λ i file.
           andThen (refuse (needCounts (i .net) 0) 0)
           (andThen (needLists 1 (i .net) (i .lists))
-          (andThen (judge (encode (setWith (i .net) (i .lists))))
+          (andThen (takeIn (encode (setWith (i .net) (i .lists))))
           (needRoom (fileLength (i .net)) file)));
       tells = lengthTells;
       gives = λ i file. fileLength (i .net) ∷ [];
