@@ -1,10 +1,10 @@
 use Prim.Native.Nat.{_-_, _≤_}
-use Rattle.checker.proofs.Files.{ends-low, link-there, linked-done, linked-more, linked-none}
-use Rattle.checker.specs.Graph.{neighbourWords}
+use Rattle.intake.proofs.Files.{ends-low, link-there, linked-done, linked-more, linked-none}
+use Rattle.intake.specs.Graph.{neighbourWords}
 use borrow.Author.Needs.{needs}
 use mathlib.Core.Path.{_≡_}
-use Rattle.checker.proofs.neighbour_words.Statement.{statement}
-use Rattle.checker.proofs.neighbour_words.Tie as tie
+use Rattle.intake.proofs.neighbour_words.Statement.{statement}
+use Rattle.intake.proofs.neighbour_words.Tie as tie
 
 abbrev Inv-loop : tie.InvT-loop
 Inv-loop file m nb₀ l₀ nb l = (l ≤ m) × (nb ≡ neighbourWords file l)

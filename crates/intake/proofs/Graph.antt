@@ -2,12 +2,13 @@
 use mathlib.Core.Path.{_≡_, refl, sym, ap, ap₂, _∙_}
 use mathlib.Core.Bool.{Bool, true, false, _&&_, _||_, or-false}
 use mathlib.Core.List.{List}
-use Prim.Native.Nat.{ℕ, zero, suc, _≤_, _<_}
+use Prim.Native.Nat.{ℕ, zero, suc, _-_, _≤_, _<_}
 use native.Mathlib.Omega.{arith}
 use lib.Dec.{eqb, ltb}
 use lib.ListN.{length, getD, set, replicate, length-set, length-replicate}
 use lib.Seq.{getD-set-same, getD-set-other}
-use borrow.Author.Tests.{eqb-true, eqb-false, eq-eqb, lt-ltb, le-ltb, le-leb}
+use borrow.Author.Tests.{eqb-true, eqb-false, eq-eqb, lt-ltb, le-ltb}
+use Rattle.rules.specs.declared.Network.{Network}
 use Rattle.rules.specs.declared.Verdict.the-variants.{Accepted}
 use Rattle.rules.specs.Basics.{any, lowest}
 use Rattle.rules.specs.Limits.{homeRecords}
@@ -17,15 +18,16 @@ use Rattle.rules.specs.Judgement.{judge}
 use Rattle.rules.proofs.Ground.Choices.{clash, false-of, same-test}
 use Rattle.rules.proofs.Ground.Numbers.{any-at, any-of, any-ext, lowest-none, lowest-found}
 use Rattle.rules.proofs.Ground.Rows.{getD-upTo}
+use Rattle.rules.proofs.File.SetOfBytes.{home-held}
 use Rattle.rules.proofs.File.Records.{file-meets}
-use Rattle.rules.proofs.Isolation.HomesAndRows.{homes-all}
+use Rattle.rules.proofs.Isolation.HomesAndRows.{homes-all, homes-most, isolated-by-home}
 use Rattle.rules.proofs.Isolation.Removal.{homeless-at}
 use Rattle.layout.proofs.Places.{links-end}
-use Rattle.words.specs.Word.{has, adding}
-use Rattle.words.proofs.Members.{has-none, has-adding, word-ext}
+use Rattle.words.specs.Word.{has, adding, put}
+use Rattle.words.proofs.Members.{has-none, has-adding, word-ext, word-none, word-more}
 use Rattle.topologyrules.specs.Entered.{entered}
 use Rattle.topologyrules.proofs.Same.{WordsOf}
-use Rattle.checker.specs.Graph.{linked, neighbourWords, homeIs, Ends}
+use Rattle.intake.specs.Graph.{linked, neighbourWords, isolatedWords, Ends, Homes}
 
 -- ---- who is in the words
 
@@ -108,11 +110,48 @@ words-of s few =
 
 -- ---- isolated nodes
 
-pub isolated-word-is : (s : List ℕ) (i : ℕ) → 1 ≤ headerOf s .k → 1 ≤ i → word (homeIs s (headerOf s) i) (headerOf s .n) ≡ isolatedWord (setOf s) i
-unfolding homeIs isolatedWord isolated home setOf
-isolated-word-is s i hk hi =
-    word-ext (homeIs s (headerOf s) i) (isolated (setOf s) i) (headerOf s .n)
-    (λ v l. ap₂ (λ (p : Bool) (x : ℕ). p && eqb x i) (sym (le-leb 1 i hi)) (sym (getD-upTo (homeTopology s (headerOf s)) (homeRecords (headerOf s)) v 0 (let e = homes-all (headerOf s) hk in omega arith))))
+length-isolated : (s : List ℕ) (h : Network) (v : ℕ) → length (isolatedWords s h v) ≡ 32
+unfolding isolatedWords
+length-isolated s h zero = length-replicate {A = ℕ} 32 0
+length-isolated s h (suc v) = length-entered (isolatedWords s h v) (homeTopology s h v - 1) v ∙ length-isolated s h v
+
+-- node v's home is i
+abbrev homeIs : List ℕ → Network → ℕ → ℕ → Bool
+homeIs s h i v = eqb (homeTopology s h v) i
+
+-- the word of topology j + 1, once the first v nodes are entered
+word-so-far : (s : List ℕ) (h : Network) (j v : ℕ) → j < 32 → v ≤ 32 → ((x : ℕ) → x < v → 1 ≤ homeTopology s h x)
+    → getD (isolatedWords s h v) j 0 ≡ word (homeIs s h (suc j)) v
+unfolding isolatedWords entered put
+word-so-far s h j zero lj lv one = homeless-at 32 j ∙ word-none (homeIs s h (suc j))
+word-so-far s h j (suc v) lj lv one = go (homeIs s h (suc j) v) refl (word-so-far s h j v lj (omega arith) (λ x l. one x (omega arith)))
+  where
+    more : (t : Bool) → homeIs s h (suc j) v ≡ t → getD (isolatedWords s h v) j 0 ≡ word (homeIs s h (suc j)) v → put t (getD (isolatedWords s h v) j 0) v ≡ word (homeIs s h (suc j)) (suc v)
+    more t e before = ap₂ (λ (q : Bool) (w : ℕ). put q w v) (sym e) before ∙ word-more (homeIs s h (suc j)) v (omega arith)
+
+    go : (t : Bool) → homeIs s h (suc j) v ≡ t → getD (isolatedWords s h v) j 0 ≡ word (homeIs s h (suc j)) v
+        → getD (entered (isolatedWords s h v) (homeTopology s h v - 1) v) j 0 ≡ word (homeIs s h (suc j)) (suc v)
+    go true e before =
+        let here : homeTopology s h v - 1 ≡ j = let q = eqb-true (homeTopology s h v) (suc j) e in omega arith in
+        ap (λ (x : ℕ). getD (set (isolatedWords s h v) x (adding (getD (isolatedWords s h v) x 0) v)) j 0) here
+        ∙ getD-set-same (isolatedWords s h v) j (adding (getD (isolatedWords s h v) j 0) v) 0 (let l = length-isolated s h v in omega arith)
+        ∙ more true e before
+    go false e before =
+        let q = eqb-false (homeTopology s h v) (suc j) e in
+        let l = one v (omega arith) in
+        getD-set-other (isolatedWords s h v) (homeTopology s h v - 1) j (adding (getD (isolatedWords s h v) (homeTopology s h v - 1) 0) v) 0 (λ z. q (omega arith))
+        ∙ more false e before
+
+pub isolated-words-are : (s : List ℕ) (j : ℕ) → Homes s (headerOf s) → j < headerOf s .k → j < 32
+    → getD (isolatedWords s (headerOf s) (homeRecords (headerOf s))) j 0 ≡ isolatedWord (setOf s) (suc j)
+unfolding isolatedWord setOf
+isolated-words-are s j H lk lj =
+    let h : Network = headerOf s in
+    let all : homeRecords h ≡ h .n = homes-all h (omega arith) in
+    word-so-far s h j (homeRecords h) lj (H .few) (H .one)
+    ∙ ap (word (homeIs s h (suc j))) all
+    ∙ word-ext (homeIs s h (suc j)) (isolated (setOf s) (suc j)) (h .n)
+    (λ v l. ap (λ (x : ℕ). eqb x (suc j)) (sym (home-held s v (omega arith))) ∙ sym (isolated-by-home (setOf s) j v))
 
 -- ---- an accepted file
 
@@ -122,8 +161,18 @@ accepted-ends s e =
     let n = f .header .limits .nodes .1 in
     record { long = rw (f .header .long) (links-end (headerOf s)); a-low = λ l h. let x = f .links l h .ends in omega (arith, x .0, x .1); b-low = λ l h. let x = f .links l h .ends in omega (arith, x .0, x .1) }
 
+pub accepted-homes : (s : List ℕ) → judge s ≡ Accepted → Homes s (headerOf s)
+accepted-homes s e =
+    let f = file-meets s e in
+    let n = f .header .limits .nodes .1 in
+    let k = f .header .limits .topologies .0 in
+    record { few = omega (arith, homes-most (headerOf s)); one = λ v l. f .homes v l .topology .0; high = λ v l. let t = f .homes v l .topology .1 in omega arith }
+
 pub accepted-few : (s : List ℕ) → judge s ≡ Accepted → headerOf s .n ≤ 32
 accepted-few s e = file-meets s e .header .limits .nodes .1
 
 pub accepted-some : (s : List ℕ) → judge s ≡ Accepted → 3 ≤ headerOf s .n
 accepted-some s e = file-meets s e .header .limits .nodes .0
+
+pub accepted-topologies : (s : List ℕ) → judge s ≡ Accepted → headerOf s .k ≤ 32
+accepted-topologies s e = file-meets s e .header .limits .topologies .0

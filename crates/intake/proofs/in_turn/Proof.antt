@@ -1,34 +1,38 @@
 use Prim.Native.Nat.{_-_, _≤_}
-use Rattle.checker.proofs.Files.{few-of, some-of, turns-done, turns-more, turns-none, turns-out, turnsTo}
+use mathlib.Core.Path.{_≡_}
+use Rattle.intake.proofs.Files.{turns}
+use Rattle.intake.specs.Graph.{turnsBy}
 use Rattle.rules.specs.declared.Verdict.the-variants.{Accepted}
 use borrow.Author.Needs.{needs}
-use mathlib.Core.Path.{_≡_}
-use Rattle.checker.proofs.in_turn.Statement.{statement}
-use Rattle.checker.proofs.in_turn.Tie as tie
+use Rattle.intake.proofs.in_turn.Statement.{statement}
+use Rattle.intake.proofs.in_turn.Tie as tie
 
 abbrev Inv-loop : tie.InvT-loop
-Inv-loop file net nb j₀ j = (j ≤ net .k) × (turnsTo file j ≡ Accepted)
+Inv-loop net nb isos j₀ j = (j ≤ net .k) × (turnsBy nb (net .n) isos j ≡ Accepted)
 
 abbrev μ-loop : tie.MeasureT-loop
-μ-loop file net nb j₀ j = net .k - j
+μ-loop net nb isos j₀ j = net .k - j
 
 loop-holds : tie.Need-loop-holds Inv-loop μ-loop
-loop-holds c = (search needs, search turns-none)
+loop-holds c = (search needs, search turns)
 
 add-i : tie.Need-add-i Inv-loop μ-loop
 add-i c = search needs
 
-isolated-word-requires : tie.Need-isolated-word-requires Inv-loop μ-loop
-isolated-word-requires c κs = search few-of
+cast-word : tie.Need-cast-word Inv-loop μ-loop
+cast-word c = search needs
+
+word-requires : tie.Need-word-requires Inv-loop μ-loop
+word-requires c κs = search needs
 
 topology-number-requires : tie.Need-topology-number-requires Inv-loop μ-loop
-topology-number-requires c κs = (search some-of, search few-of)
+topology-number-requires c κs = (search needs, search needs)
 
-cast-t9 : tie.Need-cast-t9 Inv-loop μ-loop
-cast-t9 c = search needs
+cast-t10 : tie.Need-cast-t10 Inv-loop μ-loop
+cast-t10 c = search needs
 
 returns : tie.Need-returns Inv-loop μ-loop
-returns c = search turns-out
+returns c = search turns
 
 add-j : tie.Need-add-j Inv-loop μ-loop
 add-j c = search needs
@@ -37,10 +41,10 @@ loop-less : tie.Need-loop-less Inv-loop μ-loop
 loop-less c = search needs
 
 loop-again : tie.Need-loop-again Inv-loop μ-loop
-loop-again c = (search needs, search turns-more)
+loop-again c = (search needs, search turns)
 
 returns-2 : tie.Need-returns-2 Inv-loop μ-loop
-returns-2 c = search turns-done
+returns-2 c = search turns
 
 pub in-turn-spec : {M : Type 1} → statement M
 in-turn-spec =
@@ -50,9 +54,10 @@ in-turn-spec =
     μ-loop
     loop-holds
     add-i
-    isolated-word-requires
+    cast-word
+    word-requires
     topology-number-requires
-    cast-t9
+    cast-t10
     returns
     add-j
     loop-less
