@@ -13,8 +13,6 @@ use Rattle.rules.specs.declared.Outcome.{Outcome}
 use Rattle.rules.specs.declared.Outcome.the-variants as ended
 use Rattle.rules.specs.declared.Step.{Step}
 use Rattle.rules.specs.declared.Step.the-variants.{Delivered, Moved, Dropped}
-use Rattle.rules.specs.declared.Verdict.{Verdict}
-use Rattle.rules.specs.declared.Verdict.the-variants.{Accepted, Refused}
 use Rattle.rules.specs.declared.ReadAnswer.{ReadAnswer}
 use Rattle.rules.specs.declared.ReadAnswer.the-variants as read
 use Rattle.rules.specs.declared.LengthAnswer.{LengthAnswer}
@@ -25,18 +23,10 @@ use Rattle.rules.specs.declared.RunAnswer.{RunAnswer}
 use Rattle.rules.specs.declared.RunAnswer.the-variants as ran
 use Rattle.rules.specs.Basics.{if_then_else_}
 use Rattle.rules.specs.Forwarding.{letter}
-use Rattle.rules.specs.Answers.{verdictTells, headerValues, readTells, lengthTells, outcomeValue, packetValues, stepValues, stepTells, journeyValues, runTells}
+use Rattle.rules.specs.Answers.{headerValues, readTells, lengthTells, outcomeValue, packetValues, stepValues, stepTells, journeyValues, runTells}
 use Rattle.answerwords.specs.Words.{refusedWord, pack, wordOf, byLength, byRead, byStep, byRun, failureOf}
 
 -- ---- words
-
-pub verdict-accepted : (v : Verdict) → v ≡ Accepted → 0 ≡ wordOf [] (verdictTells v)
-unfolding wordOf verdictTells pack
-verdict-accepted v e = rw e
-
-pub verdict-refused : (v : Verdict) (number place w : ℕ) → v ≡ Refused number place → w ≡ refusedWord number place → w ≡ wordOf [] (verdictTells v)
-unfolding wordOf verdictTells
-verdict-refused v number place w e d = d ∙ rw e
 
 pub length-given : (a : LengthAnswer) (bytes : ℕ) → a ≡ long.Length bytes → bytes ≡ wordOf byLength (lengthTells a)
 unfolding wordOf lengthTells pack
@@ -136,4 +126,4 @@ pub down-no-node : (kind failed : ℕ) → kind ≡ 2 → 256 ≤ failed → Lin
 unfolding failureOf if_then_else_
 down-no-node kind failed e l = rw (ne-eqb kind 0 (λ z. omega arith), ne-eqb kind 1 (λ z. omega arith), eq-eqb kind 2 e, le-ltb failed 256 l)
 
-pub ruleset words = (verdict-accepted, verdict-refused, length-given, length-refused, header-is, read-given, read-refused, outcome-under-way, outcome-delivered, outcome-dropped, packet-is, stands-is, step-delivered, step-moved, step-dropped, step-taken, step-refused, journey-is, run-ended, run-refused, down-nothing, down-link, down-unknown, down-node, down-no-node)
+pub ruleset words = (length-given, length-refused, header-is, read-given, read-refused, outcome-under-way, outcome-delivered, outcome-dropped, packet-is, stands-is, step-delivered, step-moved, step-dropped, step-taken, step-refused, journey-is, run-ended, run-refused, down-nothing, down-link, down-unknown, down-node, down-no-node)

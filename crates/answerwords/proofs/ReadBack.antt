@@ -14,15 +14,14 @@ use Rattle.rules.specs.Answers.{accepted, refused, tell}
 use Rattle.rules.specs.Entries.Entry.{Entry}
 use Rattle.rules.specs.Entries.Read.{readEntry}
 use Rattle.rules.specs.Entries.Write.{writeEntry}
-use Rattle.rules.specs.Entries.Check.{checkEntry}
 use Rattle.rules.specs.Entries.Build.{buildEntry}
 use Rattle.rules.specs.Entries.Tables.{tablesEntry}
 use Rattle.rules.specs.Entries.Step.{stepEntry}
 use Rattle.rules.specs.Entries.Run.{runEntry}
 use Rattle.rules.specs.Entries.Report.{reportEntry}
 use Rattle.rules.specs.Demands.One.{Numbered}
-use Rattle.rules.proofs.Entries.Values.{Below, read-below, write-below, check-below, build-below, tables-below, report-below, step-below, run-below}
-use Rattle.rules.proofs.Refusals.Numbered.{longest-is, read-numbered, write-numbered, check-numbered, build-numbered, tables-numbered, step-numbered, run-numbered, report-numbered}
+use Rattle.rules.proofs.Entries.Values.{Below, read-below, write-below, build-below, tables-below, report-below, step-below, run-below}
+use Rattle.rules.proofs.Refusals.Numbered.{longest-is, read-numbered, write-numbered, build-numbered, tables-numbered, step-numbered, run-numbered, report-numbered}
 use Rattle.answerwords.specs.Words.{refusedWord, pack, wordOf, byLength, byRead, byStep, byRun, refusing, numberIn, placeIn, unpack, toldBy, ReadFromWord, EveryWord}
 
 -- ---- values
@@ -108,7 +107,6 @@ pub every-word : EveryWord
 unfolding span
 every-word =
     record {
-      check = read-from-word [] (omega arith) checkEntry check-numbered check-below;
       build = read-from-word byLength (omega arith) buildEntry build-numbered build-below;
       tables = read-from-word byLength (omega arith) tablesEntry tables-numbered tables-below;
       step = read-from-word byStep (omega arith) stepEntry step-numbered step-below;

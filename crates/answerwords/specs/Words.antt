@@ -14,7 +14,6 @@ use Rattle.rules.specs.Answers.{Told, accepted, refused, tell}
 use Rattle.rules.specs.Entries.Entry.{Entry, onAccept, Promise}
 use Rattle.rules.specs.Entries.Read.{readEntry}
 use Rattle.rules.specs.Entries.Write.{writeEntry}
-use Rattle.rules.specs.Entries.Check.{checkEntry}
 use Rattle.rules.specs.Entries.Build.{buildEntry}
 use Rattle.rules.specs.Entries.Tables.{tablesEntry}
 use Rattle.rules.specs.Entries.Step.{stepEntry}
@@ -110,7 +109,6 @@ pub record ReadFromWord {Input Lent Answer : Type 0} (E : Entry Input Lent Answe
 
 -- of every function
 pub record EveryWord : Type 0 where
-  pub check : ReadFromWord checkEntry []
   pub build : ReadFromWord buildEntry byLength
   pub tables : ReadFromWord tablesEntry byLength
   pub step : ReadFromWord stepEntry byStep

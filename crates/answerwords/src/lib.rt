@@ -13,13 +13,12 @@ use rules::ReadAnswer;
 use rules::RunAnswer;
 use rules::Step;
 use rules::StepAnswer;
-use rules::Verdict;
 use text::letter;
 ghost use mathlib.Core.Path.{_≡_};
 ghost use mathlib.Core.List.{[], _∷_};
 ghost use Prim.Native.Nat.{_<_};
 ghost use Rattle.rules.specs.Forwarding.{letter};
-ghost use Rattle.rules.specs.Answers.{verdictTells, readTells, lengthTells, outcomeValue, stepValues, stepTells, journeyValues, runTells};
+ghost use Rattle.rules.specs.Answers.{readTells, lengthTells, outcomeValue, stepValues, stepTells, journeyValues, runTells};
 ghost use Rattle.answerwords.specs.Words.{refusedWord, pack, wordOf, failureOf, byLength, byRead, byStep, byRun};
 
 // ---- answers as words
@@ -31,18 +30,8 @@ fn refused_word(number: u8, place: usize) -> u64
     9223372036854775808 + (number as u64) * 4294967296 + low
 }
 
-// Rules out: a refusal with bit 63 clear `a_refusal_that_looks_accepted`; the number of a refusal among the bits of its place
+// Rules out: a length with bit 63 set, which looks refused; a refusal with bit 63 clear `a_refusal_that_looks_accepted`; also
 // `the_number_over_the_place`.
-pub fn verdict_word(v: Verdict) -> u64
-    ensures { λ r. ⌜ r ≡ wordOf [] (verdictTells v) ⌝ }
-{
-    match v {
-        Verdict::Accepted => 0,
-        Verdict::Refused { number, place } => refused_word(number, place),
-    }
-}
-
-// Rules out: a length with bit 63 set, which looks refused; a refusal with bit 63 clear `a_refusal_that_looks_accepted`.
 pub fn length_word(a: LengthAnswer) -> u64
     ensures { λ r. ⌜ r ≡ wordOf byLength (lengthTells a) ⌝ }
 {

@@ -16,7 +16,7 @@ use Rattle.rules.specs.Basics.{need, all, laid}
 use Rattle.rules.specs.Limits.{fileLength}
 use Rattle.rules.specs.File.{Set, encode, headerOf, setOf}
 use Rattle.rules.specs.Building.{firstFit, highest, filled, built, spared, buildNumber}
-use Rattle.rules.specs.Judgement.{refuse, andThen, judge, needGraph, needCap, needFit, needRoom}
+use Rattle.rules.specs.Judgement.{refuse, andThen, judge, takeIn, needGraph, needCap, needFit, needRoom}
 use Rattle.rules.specs.Answers.{tell, lengthTells}
 use Rattle.rules.specs.Entries.Entry.{onAccept, Promise}
 use Rattle.rules.specs.Entries.Build.{builtFrom, buildEntry}
@@ -24,12 +24,13 @@ use Rattle.rules.proofs.Ground.Choices.{need-yes, need-no, need-ok, refuse-no, 
 use Rattle.rules.proofs.File.SetOfBytes.{net-held}
 use Rattle.rules.proofs.File.Records.{file-meets}
 use Rattle.rules.proofs.File.Accepted as accepted
+use Rattle.rules.proofs.File.TakenIn.{taken-file}
 use Rattle.rules.proofs.Building.BuildNumber.{zero-exactly}
 use Rattle.rules.proofs.Entries.Determined.{length-one}
 use Rattle.layout.proofs.Places.{links-end}
 use Rattle.topologyrules.proofs.Same.{WordsOf}
-use Rattle.checker.specs.Graph.{neighbourWords}
-use Rattle.checker.proofs.Graph.{words-of, accepted-few}
+use Rattle.intake.specs.Graph.{neighbourWords}
+use Rattle.intake.proofs.Graph.{words-of, accepted-few}
 use Rattle.firstfit.specs.Fit.{allSpared, Placed}
 use Rattle.firstfit.proofs.Fitted.{all-spared-same, passed-cap, all-placed, placed-homes}
 use Rattle.slices.specs.Stores.{put}
@@ -146,43 +147,43 @@ module _ (s nb homes d : List ℕ) (net : Network) (cap r : ℕ) (a : judge s �
 -- ---- build
 
 module _ (s d f : List ℕ) (cap : ℕ) (r : LengthAnswer) where
-  promised : Gives (andThen (andThen (judge s) (andThen (needGraph (headerOf s)) (needCap cap))) (andThen (needFit (setOf s) cap) (needRoom (fileLength (built (setOf s) cap .net)) d))) (built (setOf s) cap) d r f
+  promised : Gives (andThen (andThen (takeIn s) (andThen (needGraph (headerOf s)) (needCap cap))) (andThen (needFit (setOf s) cap) (needRoom (fileLength (built (setOf s) cap .net)) d))) (built (setOf s) cap) d r f
       → Promise buildEntry (record { file = s; cap = cap }) d r f
   unfolding buildEntry builtFrom
   promised g =
       let e =
-      ap (andThen (judge s)) (then-assoc (needGraph (headerOf s)) (needCap cap) (andThen (needFit (setOf s) cap) (needRoom (fileLength (built (setOf s) cap .net)) d)))
-      ∙ then-assoc (judge s) (andThen (needGraph (headerOf s)) (needCap cap)) (andThen (needFit (setOf s) cap) (needRoom (fileLength (built (setOf s) cap .net)) d)) in
+      ap (andThen (takeIn s)) (then-assoc (needGraph (headerOf s)) (needCap cap) (andThen (needFit (setOf s) cap) (needRoom (fileLength (built (setOf s) cap .net)) d)))
+      ∙ then-assoc (takeIn s) (andThen (needGraph (headerOf s)) (needCap cap)) (andThen (needFit (setOf s) cap) (needRoom (fileLength (built (setOf s) cap .net)) d)) in
       record {
         answer = g .answer ∙ ap (λ (v : Verdict). tell v (fileLength (built (setOf s) cap .net) ∷ [])) (sym e);
         lent = g .lent ∙ ap (λ (v : Verdict). onAccept v (laid (encode (built (setOf s) cap)) d) d) (sym e);
       }
 
-  pub build-on : (v : Verdict) → v ≡ Accepted → v ≡ andThen (judge s) (andThen (needGraph (headerOf s)) (needCap cap))
+  pub build-on : (v : Verdict) → v ≡ Accepted → v ≡ andThen (takeIn s) (andThen (needGraph (headerOf s)) (needCap cap))
       → Gives (andThen (needFit (setOf s) cap) (needRoom (fileLength (built (setOf s) cap .net)) d)) (built (setOf s) cap) d r f → Promise buildEntry (record { file = s; cap = cap }) d r f
-  build-on v t e g = promised (gives-on (andThen (judge s) (andThen (needGraph (headerOf s)) (needCap cap))) _ (built (setOf s) cap) d r f (sym e ∙ t) g)
+  build-on v t e g = promised (gives-on (andThen (takeIn s) (andThen (needGraph (headerOf s)) (needCap cap))) _ (built (setOf s) cap) d r f (sym e ∙ t) g)
 
-pub build-stop : (s d : List ℕ) (cap : ℕ) (v : Verdict) (number place : ℕ) → v ≡ Refused number place → v ≡ andThen (judge s) (andThen (needGraph (headerOf s)) (needCap cap))
+pub build-stop : (s d : List ℕ) (cap : ℕ) (v : Verdict) (number place : ℕ) → v ≡ Refused number place → v ≡ andThen (takeIn s) (andThen (needGraph (headerOf s)) (needCap cap))
     → Promise buildEntry (record { file = s; cap = cap }) d (long.Refused number place) d
 build-stop s d cap v number place t e =
     promised s d d cap (long.Refused number place)
-    (gives-refused (andThen (andThen (judge s) (andThen (needGraph (headerOf s)) (needCap cap))) (andThen (needFit (setOf s) cap) (needRoom (fileLength (built (setOf s) cap .net)) d))) (built (setOf s) cap) d number place
-    (then-no (andThen (judge s) (andThen (needGraph (headerOf s)) (needCap cap))) _ number place (sym e ∙ t)))
+    (gives-refused (andThen (andThen (takeIn s) (andThen (needGraph (headerOf s)) (needCap cap))) (andThen (needFit (setOf s) cap) (needRoom (fileLength (built (setOf s) cap .net)) d))) (built (setOf s) cap) d number place
+    (then-no (andThen (takeIn s) (andThen (needGraph (headerOf s)) (needCap cap))) _ number place (sym e ∙ t)))
 
-pub judged : (s : List ℕ) (cap : ℕ) (v : Verdict) → v ≡ Accepted → v ≡ andThen (judge s) (andThen (needGraph (headerOf s)) (needCap cap)) → judge s ≡ Accepted
-judged s cap v t e = then-first (judge s) (andThen (needGraph (headerOf s)) (needCap cap)) (sym e ∙ t)
+pub judged : (s : List ℕ) (cap : ℕ) (v : Verdict) → v ≡ Accepted → v ≡ andThen (takeIn s) (andThen (needGraph (headerOf s)) (needCap cap)) → judge s ≡ Accepted
+judged s cap v t e = taken-file s (then-first (takeIn s) (andThen (needGraph (headerOf s)) (needCap cap)) (sym e ∙ t))
 
-pub cap-most : (s : List ℕ) (cap : ℕ) (v : Verdict) → v ≡ Accepted → v ≡ andThen (judge s) (andThen (needGraph (headerOf s)) (needCap cap)) → cap ≤ 32
+pub cap-most : (s : List ℕ) (cap : ℕ) (v : Verdict) → v ≡ Accepted → v ≡ andThen (takeIn s) (andThen (needGraph (headerOf s)) (needCap cap)) → cap ≤ 32
 unfolding needCap
 cap-most s cap v t e =
-    let a = then-second (needGraph (headerOf s)) (needCap cap) (then-second (judge s) (andThen (needGraph (headerOf s)) (needCap cap)) (sym e ∙ t)) in
+    let a = then-second (needGraph (headerOf s)) (needCap cap) (then-second (takeIn s) (andThen (needGraph (headerOf s)) (needCap cap)) (sym e ∙ t)) in
     let p = need-ok (leb 1 cap) 10 (need (leb cap 32) 11 0) (refuse-zero (need (leb 1 cap) 11 (need (leb cap 32) 11 0)) 0 a) in
     leb-true cap 32 (need-ok (leb cap 32) 10 0 (p .1) .0)
 
 -- ---- the verdicts before it
 
-pub input-is : (s : List ℕ) (h : Network) (cap : ℕ) (j g c rest v : Verdict) → j ≡ judge s → g ≡ needGraph h → h ≡ headerOf s → c ≡ needCap cap → rest ≡ andThen g c
-    → v ≡ andThen j rest → v ≡ andThen (judge s) (andThen (needGraph (headerOf s)) (needCap cap))
+pub input-is : (s : List ℕ) (h : Network) (cap : ℕ) (j g c rest v : Verdict) → j ≡ takeIn s → g ≡ needGraph h → h ≡ headerOf s → c ≡ needCap cap → rest ≡ andThen g c
+    → v ≡ andThen j rest → v ≡ andThen (takeIn s) (andThen (needGraph (headerOf s)) (needCap cap))
 input-is s h cap j g c rest v ej eg eh ec er ev = ev ∙ rw (ej, er, eg, eh, ec)
 
 -- ---- the room for the homes

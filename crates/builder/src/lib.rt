@@ -1,13 +1,13 @@
 // The builder: a set for a graph. The graph's neighbour words are gathered from its bytes, first fit over them gives each node
 // its home (`firstfit`), and the set is filled in from these. `build` promises 01's answer for any bytes, cap and lent file:
-// refusals 1 to 6, 13, 11, 9, 10 and 14, or the set's bytes at the front of the file and their length. Nothing is stored before
+// refusals 1 to 6, 7 and 8 by topology, 13, 11, 9, 10 and 14, or the set's bytes at the front of the file and their length. Nothing is stored before
 // everything is accepted. 9 comes before 10; both can arise only where first fit did not place every node, so 9 is tested there alone.
-use checker::neighbour_words;
 use filling::put_set;
 use firstfit::all_spared;
 use firstfit::first_fit;
 use firstfit::highest;
-use judgement::judge;
+use intake::neighbour_words;
+use intake::take_in;
 use layout::header;
 use needs::need_cap;
 use needs::need_graph;
@@ -22,10 +22,10 @@ ghost use lib.ListN.{length, replicate};
 ghost use Rattle.rules.specs.declared.Verdict.the-variants.{Accepted};
 ghost use Rattle.rules.specs.Basics.{need};
 ghost use Rattle.rules.specs.File.{headerOf};
-ghost use Rattle.rules.specs.Judgement.{andThen, judge, needGraph, needCap};
+ghost use Rattle.rules.specs.Judgement.{andThen, judge, takeIn, needGraph, needCap};
 ghost use Rattle.rules.specs.Entries.Entry.{Promise};
 ghost use Rattle.rules.specs.Entries.Build.{buildEntry};
-ghost use Rattle.checker.specs.Graph.{neighbourWords};
+ghost use Rattle.intake.specs.Graph.{neighbourWords};
 ghost use Rattle.firstfit.specs.Fit.{allSpared};
 ghost use Rattle.builder.specs.Answer.{FilledIn, BuiltIn};
 
@@ -112,19 +112,19 @@ fn build_graph(graph: &[u8], cap: u8, file: &mut [u8]) -> LengthAnswer
     fit_nodes(graph, net, cap, &nb, file)
 }
 
-// What is refused before anything is built: 1 to 6, then 13 where a set is given, then 11 for the cap.
+// What is refused before anything is built: 1 to 8, then 13 where a set is given, then 11 for the cap.
 fn input_verdict(graph: &[u8], cap: u8) -> Verdict
-    ensures { λ r. ⌜ r ≡ andThen (judge (now (graph .entry))) (andThen (needGraph (headerOf (now (graph .entry)))) (needCap cap)) ⌝ }
+    ensures { λ r. ⌜ r ≡ andThen (takeIn (now (graph .entry))) (andThen (needGraph (headerOf (now (graph .entry)))) (needCap cap)) ⌝ }
 {
     let alone = need_graph(header(graph));
     let range = need_cap(cap);
-    then(judge(graph), then(alone, range))
+    then(take_in(graph), then(alone, range))
 }
 
 // The entry: a set for a graph with at most so many topologies, into a lent file.
 // Rules out: a node put into the last topology, where an earlier one admits it `firstfit/search_from_the_last_topology`; 10 where
-// a node other than the first holds the others together, which is 9 `firstfit/only_the_first_node_removed`; also
-// `nine_where_ten_is_due`, `ten_where_nine_is_due`, `one_topology_tried`, `room_for_the_graph_alone`,
+// a node other than the first holds the others together, which is 9 `firstfit/only_the_first_node_removed`; 13 for a set that breaks
+// 7, which is told first `thirteen_before_seven`; also `nine_where_ten_is_due`, `ten_where_nine_is_due`, `one_topology_tried`, `room_for_the_graph_alone`,
 // `firstfit/rules_for_the_new_node_only`.
 pub fn build(graph: &[u8], cap: u8, file: &mut [u8]) -> LengthAnswer
     ensures { λ r. ⌜ Promise buildEntry (record { file = now (graph .entry); cap = cap }) (now (file .entry)) r (now (file .exit)) ⌝ }

@@ -1,21 +1,19 @@
 -- An entry's promise, as a word.
 use mathlib.Core.Path.{_≡_, ap, subst, _∙_}
-use mathlib.Core.List.{List, []}
+use mathlib.Core.List.{List}
 use Prim.Native.Nat.{ℕ}
 use Rattle.rules.specs.declared.Network.{Network}
 use Rattle.rules.specs.declared.Packet.{Packet}
 use Rattle.rules.specs.declared.Failure.{Failure}
-use Rattle.rules.specs.declared.Verdict.{Verdict}
 use Rattle.rules.specs.declared.ReadAnswer.{ReadAnswer}
 use Rattle.rules.specs.declared.LengthAnswer.{LengthAnswer}
 use Rattle.rules.specs.declared.StepAnswer.{StepAnswer}
 use Rattle.rules.specs.declared.RunAnswer.{RunAnswer}
-use Rattle.rules.specs.Answers.{verdictTells, readTells, lengthTells, stepTells, runTells}
+use Rattle.rules.specs.Answers.{readTells, lengthTells, stepTells, runTells}
 use Rattle.rules.specs.Entries.Entry.{Entry, Promise}
 use Rattle.rules.specs.Entries.Lists.{Lists}
 use Rattle.rules.specs.Entries.Read.{readEntry}
 use Rattle.rules.specs.Entries.Write.{WriteInput, writeEntry}
-use Rattle.rules.specs.Entries.Check.{checkEntry}
 use Rattle.rules.specs.Entries.Build.{BuildInput, buildEntry}
 use Rattle.rules.specs.Entries.Tables.{tablesEntry}
 use Rattle.rules.specs.Entries.Step.{StepInput, stepEntry}
@@ -25,10 +23,6 @@ use Rattle.answerwords.specs.Words.{wordOf, byLength, byRead, byStep, byRun, An
 
 answers : {Input Lent Answer : Type 0} (E : Entry Input Lent Answer) (ranges : List ℕ) (i : Input) (before : Lent) (r : Answer) (after : Lent) (w : ℕ) → Promise E i before r after → w ≡ wordOf ranges (E .tells r) → Answers E ranges i before w after
 answers E ranges i before r after w P e = record { answer = e ∙ ap (wordOf ranges) (P .answer); lent = P .lent }
-
-pub check-word : (s : List ℕ) (r : Verdict) (w : ℕ) → Promise checkEntry s tt r tt → w ≡ wordOf [] (verdictTells r) → Answers checkEntry [] s tt w tt
-unfolding checkEntry
-check-word s r w P e = answers checkEntry [] s tt r tt w P e
 
 pub build-word : (i : BuildInput) (before after : List ℕ) (r : LengthAnswer) (w : ℕ) → Promise buildEntry i before r after → w ≡ wordOf byLength (lengthTells r) → Answers buildEntry byLength i before w after
 unfolding buildEntry
@@ -68,4 +62,4 @@ pub ran-word : (s : List ℕ) (u t : ℕ) (f g : Failure) (before after : RunLen
     → Answers runEntry byRun (record { file = s; source = u; destination = t; failure = g }) before w after
 ran-word s u t f g before after r w d P e = subst (λ (x : Failure). Answers runEntry byRun (record { file = s; source = u; destination = t; failure = x }) before w after) d (run-word (record { file = s; source = u; destination = t; failure = f }) before after r w P e)
 
-pub ruleset entries = (check-word, build-word, tables-word, report-word, written-word, read-word, stepped-word, ran-word)
+pub ruleset entries = (build-word, tables-word, report-word, written-word, read-word, stepped-word, ran-word)

@@ -6,14 +6,11 @@ use answerwords::length_word;
 use answerwords::read_word;
 use answerwords::run_word;
 use answerwords::step_word;
-use answerwords::verdict_word;
 use rules::Network;
 use rules::Packet;
-ghost use mathlib.Core.List.{[]};
 ghost use Rattle.rules.specs.Entries.Lists.{lists};
 ghost use Rattle.rules.specs.Entries.Read.{readEntry};
 ghost use Rattle.rules.specs.Entries.Write.{writeEntry};
-ghost use Rattle.rules.specs.Entries.Check.{checkEntry};
 ghost use Rattle.rules.specs.Entries.Build.{buildEntry};
 ghost use Rattle.rules.specs.Entries.Tables.{tablesEntry};
 ghost use Rattle.rules.specs.Entries.Step.{stepEntry};
@@ -22,15 +19,6 @@ ghost use Rattle.rules.specs.Entries.Report.{reportEntry};
 ghost use Rattle.answerwords.specs.Words.{failureOf, packetAt, Answers, byLength, byRead, byStep, byRun};
 
 // ---- the entries
-
-// Rules out: a refusal with bit 63 clear, which looks accepted `answerwords/a_refusal_that_looks_accepted`; the number of a
-// refusal among the bits of its place `answerwords/the_number_over_the_place`.
-#[no_mangle]
-pub extern "C" fn burnishpeg_check(file: &[u8]) -> u64
-    ensures { λ r. ⌜ Answers checkEntry [] (now (file .entry)) tt r tt ⌝ }
-{
-    verdict_word(checker::check(file))
-}
 
 // Rules out: a length that is not that of the file in `out`; a refusal with bit 63 clear
 // `answerwords/a_refusal_that_looks_accepted`; also `answerwords/the_number_over_the_place`.

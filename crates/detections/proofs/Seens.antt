@@ -21,7 +21,7 @@ use Rattle.rules.specs.Forwarding.{tablesOf, entryPlace, lentTables, packet}
 use Rattle.rules.specs.Report.{packetOf, kindOf, detection, backupHops, plainHops}
 use Rattle.rules.proofs.Ground.Choices.{if-yes, if-no}
 use Rattle.rules.proofs.File.SetOfBytes.{net-held}
-use Rattle.rules.proofs.File.Checked.{checked-set}
+use Rattle.rules.proofs.File.TakenIn.{set-accepted}
 use Rattle.rules.proofs.Isolation.Homes.{home-high}
 use Rattle.rules.proofs.Distance.NextHops.{least-next-hops}
 use Rattle.rules.proofs.Forwarding.Runs.{Within}
@@ -102,7 +102,7 @@ module _ (s tables : List ℕ) (net : Network) (R : Ready s net tables) where
       let S = setOf s in
       let lu = in-set u (P .node) in
       ap₂ (λ (w x : ℕ). if eqb w via then record { next = x; topology = home S u; kind = change.D } else record { next = w; topology = home S via; kind = kindBy t via })
-      (agree .next (home S via) u t (home-high S (checked-set s (R .accepted)) via lv) lu (in-set t (P .end))) (agree .alternate u via lu lv)
+      (agree .next (home S via) u t (home-high S (set-accepted s (R .accepted)) via lv) lu (in-set t (P .end))) (agree .alternate u via lu lv)
 
   -- the tables' next hops are those of the rules, all the way
   same-walk : (i t most u : ℕ) → i ≤ setOf s .net .k → t < setOf s .net .n → u < setOf s .net .n → walkHops tables net i t most u ≡ along (setOf s) i t most u
@@ -123,7 +123,7 @@ module _ (s tables : List ℕ) (net : Network) (R : Ready s net tables) where
           → (if eqb u t then 0 else suc (walkHops tables net i t most (getD tables (entryPlace net i u t) 0))) ≡ (if eqb u t then 0 else suc (along S i t most v))
       go true e rest = if-yes (eqb u t) _ _ e ∙ sym (if-yes (eqb u t) _ _ e)
       go false e rest =
-          let low = least-next-hops S (checked-set s (R .accepted)) i u t li lu lt (eqb-false u t e) .node in
+          let low = least-next-hops S (set-accepted s (R .accepted)) i u t li lu lt (eqb-false u t e) .node in
           ap (λ (x : ℕ). if eqb u t then 0 else suc (walkHops tables net i t most x)) there ∙ ap (λ (x : ℕ). if eqb u t then 0 else suc x) (rest low)
 
   -- what the node sees, from its detour and the next hops that are counted
@@ -134,7 +134,7 @@ module _ (s tables : List ℕ) (net : Network) (R : Ready s net tables) where
   unfolding seenBy packetOf kindOf
   seen-of u t via most back plain d P ne e0 e1 e2 B F =
       let S = setOf s in
-      let A = checked-set s (R .accepted) in
+      let A = set-accepted s (R .accepted) in
       let lu = in-set u (P .node) in
       let lt = in-set t (P .end) in
       let v : via ≡ nextHop S 0 u t = e0 ∙ same-next u t P in

@@ -10,13 +10,13 @@ use Rattle.rules.specs.Basics.{if_then_else_, laid}
 use Rattle.rules.specs.File.{Set, headerOf, setOf}
 use Rattle.rules.specs.Distance.{nextHop, tableBytes}
 use Rattle.rules.specs.Forwarding.{entryPlace}
-use Rattle.rules.specs.Judgement.{check}
+use Rattle.rules.specs.Judgement.{takeSet}
 use Rattle.rules.specs.Report.{kindOf, packetOf, detection, backupHops, plainHops}
 use Rattle.detections.specs.declared.Seen.{Seen}
 
 -- an accepted file s, its header, and its own tables
 pub record Ready (s : List ℕ) (net : Network) (tables : List ℕ) : Type 0 where
-  pub accepted : check s ≡ Accepted
+  pub accepted : takeSet s ≡ Accepted
   pub header : net ≡ headerOf s
   pub before : List ℕ
   pub made : tables ≡ laid (tableBytes (setOf s)) before

@@ -19,7 +19,7 @@ use Rattle.rules.specs.Limits.{tablesLength, mostHops, trailRoom}
 use Rattle.rules.specs.File.{headerOf, setOf}
 use Rattle.rules.specs.Distance.{tableBytes}
 use Rattle.rules.specs.Forwarding.{faultOf, tablesOf, lentTables, packet, Run, trail, run, runUnder}
-use Rattle.rules.specs.Judgement.{refuse, andThen, check, needPacket, needSource, needRoom}
+use Rattle.rules.specs.Judgement.{refuse, andThen, takeSet, needPacket, needSource, needRoom}
 use Rattle.rules.specs.Answers.{tell, journeyValues, runTells}
 use Rattle.rules.specs.Entries.Entry.{onAccept, Promise}
 use Rattle.rules.specs.Entries.Run.{RunLent, runOf, runValues, runEntry}
@@ -27,7 +27,7 @@ use Rattle.rules.specs.Sets.{WithinLimits}
 use Rattle.rules.proofs.Ground.Choices.{need-ok, refuse-zero, then-first, then-second}
 use Rattle.rules.proofs.Ground.Rows.{prefix-long}
 use Rattle.rules.proofs.File.SetOfBytes.{net-held}
-use Rattle.rules.proofs.File.Checked.{checked-file, checked-set}
+use Rattle.rules.proofs.File.TakenIn.{set-file, set-accepted}
 use Rattle.rules.proofs.Forwarding.Runs.{Within}
 use Rattle.rules.proofs.Forwarding.LentTables.{bytes-long, lent-agree, run-same}
 use Rattle.linkstate.specs.Links.{Judged, on}
@@ -36,8 +36,8 @@ use Rattle.forwarding.specs.Runs.{runInput, runLent, runVerdict, Ready, 
 
 -- ---- the run by a set's own tables
 
-limits : (s : List ℕ) → check s ≡ Accepted → WithinLimits (headerOf s)
-limits s c = rw (← net-held s) (checked-set s c .rules .limits)
+limits : (s : List ℕ) → takeSet s ≡ Accepted → WithinLimits (headerOf s)
+limits s c = rw (← net-held s) (set-accepted s c .rules .limits)
 
 module _ (s : List ℕ) (start : Packet) (tables nodes : List ℕ) (R : Ready s start tables nodes) where
   within : Within (setOf s) start
@@ -49,7 +49,7 @@ module _ (s : List ℕ) (start : Packet) (tables nodes : List ℕ) (R : Ready s 
   made f =
       let e : start ≡ packet (start .place) (start .destination) 0 = λ i. record { place = start .place; destination = start .destination; topology = R .first i } in
       ap (λ (h : Network). run (setOf s) (lentTables h (laid (tableBytes (setOf s)) tables)) (on s f) (mostHops h) start) (sym (net-held s))
-      ∙ run-same (setOf s) (checked-set s (R .set)) (on s f) (lentTables (setOf s .net) (laid (tableBytes (setOf s)) tables)) (lent-agree (setOf s) tables) (mostHops (setOf s .net)) start within
+      ∙ run-same (setOf s) (set-accepted s (R .set)) (on s f) (lentTables (setOf s .net) (laid (tableBytes (setOf s)) tables)) (lent-agree (setOf s) tables) (mostHops (setOf s .net)) start within
       ∙ ap (run (setOf s) (tablesOf (setOf s)) (on s f) (mostHops (setOf s .net))) e
 
 pub nodes-low : (s : List ℕ) (start : Packet) (tables nodes : List ℕ) (h : Network) → h ≡ headerOf s → Ready s start tables nodes → 3 ≤ h .n
@@ -65,9 +65,9 @@ pub tables-part : (s : List ℕ) (start : Packet) (tables nodes : List ℕ) (h :
 tables-part s start tables nodes h bytes e n R = length-take-le bytes tables (tables-fit s start tables nodes h bytes e n R) ∙ e
 
 pub run-judged : (s : List ℕ) (start : Packet) (tables nodes : List ℕ) (h : Network) → h ≡ headerOf s → Ready s start tables nodes → Judged s h
-run-judged s start tables nodes h n R = record { accepted = checked-file s (R .set); header = n }
+run-judged s start tables nodes h n R = record { accepted = set-file s (R .set); header = n }
 
-pub is-set : (s : List ℕ) (start : Packet) (tables nodes : List ℕ) → Ready s start tables nodes → check s ≡ Accepted
+pub is-set : (s : List ℕ) (start : Packet) (tables nodes : List ℕ) → Ready s start tables nodes → takeSet s ≡ Accepted
 is-set s start tables nodes R = R .set
 
 pub trail-fits : (s : List ℕ) (start : Packet) (tables nodes : List ℕ) (h : Network) (most : ℕ) → most ≡ mostHops h → h ≡ headerOf s → Ready s start tables nodes → most < length nodes
@@ -94,7 +94,7 @@ run-made s start tables nodes t nodes′ h bytes most f j n b m R g G =
 -- ---- the verdict
 
 module _ (s : List ℕ) (u t : ℕ) (f : Failure) (tables nodes : List ℕ) where
-  pub run-verdict-is : (x y a b : ℕ) (h : Network) (set range source room steps p q r v : Verdict) → h ≡ headerOf s → set ≡ check s → range ≡ needPacket h (packet u t 0) f → source ≡ needSource u f → a ≡ tablesLength h
+  pub run-verdict-is : (x y a b : ℕ) (h : Network) (set range source room steps p q r v : Verdict) → h ≡ headerOf s → set ≡ takeSet s → range ≡ needPacket h (packet u t 0) f → source ≡ needSource u f → a ≡ tablesLength h
       → room ≡ refuse (need (leb a x) 14 0) 0 → b ≡ trailRoom h → steps ≡ refuse (need (leb b y) 14 0) 0 → p ≡ andThen room steps → q ≡ andThen source p → r ≡ andThen range q → v ≡ andThen set r → v ≡ runVerdict (runInput s u t f) x y
   unfolding runVerdict
   run-verdict-is x y a b h set range source room steps p q r v n e1 e2 e3 e4 e5 e6 e7 d1 d2 d3 d4 = cc (ap (λ (k : Network). needPacket k (packet u t 0) f) n, ap tablesLength n, ap trailRoom n)
@@ -107,12 +107,12 @@ module _ (s : List ℕ) (u t : ℕ) (f : Failure) (tables nodes : List ℕ) wher
   unfolding runVerdict needPacket
   run-ready v e d =
       let z : runVerdict (runInput s u t f) (length tables) (length nodes) ≡ Accepted = sym d ∙ e in
-      let r1 = then-second (check s) _ z in
+      let r1 = then-second (takeSet s) _ z in
       let p1 = need-ok _ _ _ (refuse-zero _ 0 (then-first _ _ r1)) in
       let p2 = need-ok _ _ _ (p1 .1) in
       let r2 = then-second _ _ (then-second _ _ r1) in
       record {
-        set = then-first (check s) _ z;
+        set = then-first (takeSet s) _ z;
         node = ltb-true _ _ (p1 .0);
         end = ltb-true _ _ (p2 .0);
         first = refl;

@@ -14,7 +14,7 @@ use Rattle.rules.specs.Limits.{tablesLength, trailRoom}
 use Rattle.rules.specs.File.{headerOf, setOf}
 use Rattle.rules.specs.Distance.{tableBytes}
 use Rattle.rules.specs.Forwarding.{faultOf, packet, trail, runUnder}
-use Rattle.rules.specs.Judgement.{refuse, andThen, check, needPacket, needSource}
+use Rattle.rules.specs.Judgement.{refuse, andThen, takeSet, needPacket, needSource}
 use Rattle.rules.specs.Entries.Run.{RunInput, RunLent}
 use Rattle.travel.specs.Trip.{journeyOf}
 
@@ -27,7 +27,7 @@ runLent tables trail = record { tables = tables; trail = trail }
 -- by the lengths of the rooms: 1 to 6, 13, 7 and 8 by topology, 11, 12, 14
 unfoldable pub runVerdict : RunInput → ℕ → ℕ → Verdict
 runVerdict i tables trail =
-    andThen (check (i .file))
+    andThen (takeSet (i .file))
     (andThen (needPacket (headerOf (i .file)) (packet (i .source) (i .destination) 0) (i .failure))
     (andThen (needSource (i .source) (i .failure))
     (andThen (refuse (need (leb (tablesLength (headerOf (i .file))) tables) 14 0) 0)
@@ -35,7 +35,7 @@ runVerdict i tables trail =
 
 -- an accepted set, a packet within it at the start of its run, and room for tables and trail
 pub record Ready (s : List ℕ) (start : Packet) (tables nodes : List ℕ) : Type 0 where
-  pub set : check s ≡ Accepted
+  pub set : takeSet s ≡ Accepted
   pub node : start .place < headerOf s .n
   pub end : start .destination < headerOf s .n
   pub first : start .topology ≡ 0

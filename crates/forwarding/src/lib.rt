@@ -83,7 +83,7 @@ fn run_verdict(
     ensures { λ r. ⌜ r ≡ runVerdict (runInput (now (file .entry)) source destination failure) tables trail ⌝ }
 {
     let net = header(file);
-    let set = checker::verdict(file);
+    let set = intake::take_set(file);
     let start = Packet {
         place: source,
         destination,

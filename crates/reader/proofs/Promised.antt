@@ -8,7 +8,7 @@ use Rattle.rules.specs.declared.Verdict.{Verdict}
 use Rattle.rules.specs.declared.Verdict.the-variants.{Accepted, Refused}
 use Rattle.rules.specs.declared.ReadAnswer.the-variants as read
 use Rattle.rules.specs.File.{headerOf, setOf}
-use Rattle.rules.specs.Judgement.{andThen, judge}
+use Rattle.rules.specs.Judgement.{andThen, takeIn}
 use Rattle.rules.specs.Answers.{tell, readTells}
 use Rattle.rules.specs.Entries.Entry.{onAccept, Promise}
 use Rattle.rules.specs.Entries.Lists.{Lists, lists, needLists, LongLists}
@@ -19,7 +19,7 @@ use Rattle.rules.proofs.Refusals.Needs.{lists-long}
 use Rattle.listing.specs.Fields.{rowOf, listsOf}
 use Rattle.reader.specs.Reading.{readVerdict}
 
-pub verdict-on-is : (s : List ℕ) (h : Network) (a b weights homes rows : ℕ) (u w v : Verdict) → u ≡ judge s → w ≡ listsVerdict 14 h a b weights homes rows → v ≡ andThen u w
+pub verdict-on-is : (s : List ℕ) (h : Network) (a b weights homes rows : ℕ) (u w v : Verdict) → u ≡ takeIn s → w ≡ listsVerdict 14 h a b weights homes rows → v ≡ andThen u w
     → v ≡ readVerdict s h a b weights homes rows
 unfolding readVerdict
 verdict-on-is s h a b weights homes rows u w v p q e = e ∙ rw (p, q)
@@ -36,7 +36,7 @@ module _ (s a b w hs rs : List ℕ) (h : Network) (v : Verdict)
   -- an accepted call has room
   pub read-room : v ≡ Accepted → LongLists h (lists a b w hs rs)
   unfolding readVerdict listsVerdict listsRule needLists
-  read-room t = lists-long 13 h (lists a b w hs rs) (then-second (judge s) _ (sym p ∙ t))
+  read-room t = lists-long 13 h (lists a b w hs rs) (then-second (takeIn s) _ (sym p ∙ t))
 
   pub read-taken : (e : Lists) → v ≡ Accepted → e ≡ listsOf s h (lists a b w hs rs) → Promise readEntry s (lists a b w hs rs) (read.Read h) e
   unfolding readEntry readTells tell onAccept listsOf rowOf listsWith setOf

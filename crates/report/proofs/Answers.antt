@@ -14,7 +14,7 @@ use Rattle.rules.specs.Basics.{laid}
 use Rattle.rules.specs.Limits.{tablesLength, reportRoom, longest}
 use Rattle.rules.specs.File.{headerOf, setOf}
 use Rattle.rules.specs.Distance.{tableBytes}
-use Rattle.rules.specs.Judgement.{andThen, check, needRoom}
+use Rattle.rules.specs.Judgement.{andThen, takeSet, needRoom}
 use Rattle.rules.specs.Report.{decimal, newline, reportText, refusalLine, printed}
 use Rattle.rules.specs.Answers.{accepted, tell, lengthTells}
 use Rattle.rules.specs.Entries.Entry.{onAccept, Promise}
@@ -24,7 +24,7 @@ use Rattle.rules.specs.Sets.{WithinLimits}
 use Rattle.rules.proofs.Ground.Choices.{then-ok, then-no, then-first, then-second}
 use Rattle.rules.proofs.Ground.Rows.{length-laid, laid-front}
 use Rattle.rules.proofs.File.SetOfBytes.{net-held}
-use Rattle.rules.proofs.File.Checked.{checked-set}
+use Rattle.rules.proofs.File.TakenIn.{set-accepted}
 use Rattle.rules.proofs.Entries.Answering.{tells-accepted}
 use Rattle.rules.proofs.Entries.Determined.{tells-refused}
 use Rattle.rules.proofs.Entries.Report.{report-fits}
@@ -52,24 +52,24 @@ unfolding reportRoom longest
 refusal-short = omega arith
 
 module _ (s : List ℕ) where
-  -- room that is enough for every accepted file leaves the verdict to the check
-  only-check : (long : ℕ) (lent : List ℕ) → (check s ≡ Accepted → long ≤ length lent) → andThen (check s) (needRoom long lent) ≡ check s
-  only-check long lent l = go (check s) refl
+  -- room that is enough for every accepted file leaves the verdict to taking in
+  only-taken : (long : ℕ) (lent : List ℕ) → (takeSet s ≡ Accepted → long ≤ length lent) → andThen (takeSet s) (needRoom long lent) ≡ takeSet s
+  only-taken long lent l = go (takeSet s) refl
     where
-      go : (v : Verdict) → check s ≡ v → andThen (check s) (needRoom long lent) ≡ check s
-      go Accepted c = then-ok (check s) (needRoom long lent) c ∙ room-ok long lent (l c) ∙ sym c
-      go (Refused number place) c = then-no (check s) (needRoom long lent) number place c ∙ sym c
+      go : (v : Verdict) → takeSet s ≡ v → andThen (takeSet s) (needRoom long lent) ≡ takeSet s
+      go Accepted c = then-ok (takeSet s) (needRoom long lent) c ∙ room-ok long lent (l c) ∙ sym c
+      go (Refused number place) c = then-no (takeSet s) (needRoom long lent) number place c ∙ sym c
 
   -- room that is enough for the tables of an accepted file
-  tables-verdict : (before : List ℕ) → (check s ≡ Accepted → tablesLength (headerOf s) ≤ length before) → andThen (check s) (needRoom (tablesLength (headerOf s)) before) ≡ check s
-  tables-verdict before enough = only-check (tablesLength (headerOf s)) before enough
+  tables-verdict : (before : List ℕ) → (takeSet s ≡ Accepted → tablesLength (headerOf s) ≤ length before) → andThen (takeSet s) (needRoom (tablesLength (headerOf s)) before) ≡ takeSet s
+  tables-verdict before enough = only-taken (tablesLength (headerOf s)) before enough
 
   pub made-all : (before tables : List ℕ) (answer : LengthAnswer) → Room (longest .tables) before → Promise tablesEntry s before answer tables → Made s answer tables
   made-all before tables answer room P =
       record {
         before = before;
         enough = λ c.
-            let w : WithinLimits (headerOf s) = rw (net-held s) at (checked-set s c .rules .limits) in
+            let w : WithinLimits (headerOf s) = rw (net-held s) at (set-accepted s c .rules .limits) in
             omega (arith, room .long, longest-tables (headerOf s) w, figures.longest-tables);
         kept = P;
       }
@@ -81,17 +81,17 @@ module _ (s : List ℕ) where
   few-enough h r e d l = subst (λ (g : Network). tablesLength g ≤ fewTables) d (omega arith)
 
   -- room for the longest report is enough for every file
-  pub report-verdict : (old : List ℕ) → longest .report ≡ length old → andThen (check s) (needRoom (length (reportText (setOf s))) old) ≡ check s
-  report-verdict old e = only-check (length (reportText (setOf s))) old (λ c. omega (arith, report-fits (setOf s) (checked-set s c)))
+  pub report-verdict : (old : List ℕ) → longest .report ≡ length old → andThen (takeSet s) (needRoom (length (reportText (setOf s))) old) ≡ takeSet s
+  report-verdict old e = only-taken (length (reportText (setOf s))) old (λ c. omega (arith, report-fits (setOf s) (set-accepted s c)))
 
   -- ---- an accepted file
 
   pub made-ready : (answer : LengthAnswer) (tables : List ℕ) (bytes : ℕ) (net : Network) → Made s answer tables → answer ≡ long.Length bytes → net ≡ headerOf s → Ready s net tables
   unfolding tablesEntry lengthTells onAccept
   made-ready answer tables bytes net M e h =
-      let v : andThen (check s) (needRoom (tablesLength (headerOf s)) (M .before)) ≡ Accepted = tells-accepted _ (tablesLength (headerOf s) ∷ []) (bytes ∷ []) (sym (ap lengthTells e) ∙ M .kept .answer) in
-      let c = then-first (check s) (needRoom (tablesLength (headerOf s)) (M .before)) v in
-      let A = checked-set s c .rules .limits in
+      let v : andThen (takeSet s) (needRoom (tablesLength (headerOf s)) (M .before)) ≡ Accepted = tells-accepted _ (tablesLength (headerOf s) ∷ []) (bytes ∷ []) (sym (ap lengthTells e) ∙ M .kept .answer) in
+      let c = then-first (takeSet s) (needRoom (tablesLength (headerOf s)) (M .before)) v in
+      let A = set-accepted s c .rules .limits in
       record {
         accepted = c;
         header = h;
@@ -103,8 +103,8 @@ module _ (s : List ℕ) where
 
   -- ---- its text into lent room
 
-  fits : check s ≡ Accepted → length (reportText (setOf s)) ≤ reportRoom (headerOf s)
-  fits c = subst (λ (h : Network). length (reportText (setOf s)) ≤ reportRoom h) (net-held s) (text-fits (setOf s) (checked-set s c))
+  fits : takeSet s ≡ Accepted → length (reportText (setOf s)) ≤ reportRoom (headerOf s)
+  fits c = subst (λ (h : Network). length (reportText (setOf s)) ≤ reportRoom h) (net-held s) (text-fits (setOf s) (set-accepted s c))
 
   -- a text that was written where there is room for it
   wrote-copied : (old new : List ℕ) (r : ℕ) → length (reportText (setOf s)) ≤ length old → Wrote old 0 (reportText (setOf s)) textRoom r new → Copied (reportText (setOf s)) old (long.Length r) new
@@ -124,7 +124,7 @@ module _ (s : List ℕ) where
 
     module _ (zeros own : List ℕ) (r : ℕ) (room : Room (longest .report) zeros) (w : Wrote zeros 0 (reportText (setOf s)) textRoom r own) where
       whole : length (reportText (setOf s)) ≤ length zeros
-      whole = omega (arith, room .long, report-fits (setOf s) (checked-set s (R .accepted)))
+      whole = omega (arith, room .long, report-fits (setOf s) (set-accepted s (R .accepted)))
 
       pub apart-inside : r ≤ length own
       apart-inside = omega (arith, whole, w .on, w .long)
@@ -141,7 +141,7 @@ module _ (s : List ℕ) where
   unfolding reportEntry
   reported answer x tables old new bytes M d C =
       let c = made-ready answer tables bytes (headerOf s) M d refl .accepted in
-      let v = then-ok (check s) (needRoom (length (reportText (setOf s))) old) c in
+      let v = then-ok (takeSet s) (needRoom (length (reportText (setOf s))) old) c in
       record { answer = C .answer ∙ rw v; lent = C .lent ∙ rw v }
 
   -- ---- a refused file
@@ -149,8 +149,8 @@ module _ (s : List ℕ) where
   pub made-refused : (answer : LengthAnswer) (tables old : List ℕ) (number place : ℕ) → Made s answer tables → answer ≡ long.Refused number place → Promise reportEntry s old (long.Refused number place) old
   unfolding tablesEntry reportEntry lengthTells tell onAccept
   made-refused answer tables old number place M e =
-      let t : andThen (check s) (needRoom (tablesLength (headerOf s)) (M .before)) ≡ Refused number place = tells-refused _ (tablesLength (headerOf s) ∷ []) number place (sym (ap lengthTells e) ∙ M .kept .answer) in
-      let v = then-no (check s) (needRoom (length (reportText (setOf s))) old) number place (sym (tables-verdict (M .before) (M .enough)) ∙ t) in
+      let t : andThen (takeSet s) (needRoom (tablesLength (headerOf s)) (M .before)) ≡ Refused number place = tells-refused _ (tablesLength (headerOf s) ∷ []) number place (sym (ap lengthTells e) ∙ M .kept .answer) in
+      let v = then-no (takeSet s) (needRoom (length (reportText (setOf s))) old) number place (sym (tables-verdict (M .before) (M .enough)) ∙ t) in
       record { answer = rw v; lent = rw v }
 
 -- ---- what the program prints
@@ -166,11 +166,11 @@ module _ (s : List ℕ) where
   -- a report keeps the length of its room
   same-room : (old mid : List ℕ) (answer : LengthAnswer) → Promise reportEntry s old answer mid → length mid ≡ length old
   unfolding reportEntry onAccept
-  same-room old mid answer P = go (andThen (check s) (needRoom (length (reportText (setOf s))) old)) refl (P .lent)
+  same-room old mid answer P = go (andThen (takeSet s) (needRoom (length (reportText (setOf s))) old)) refl (P .lent)
     where
-      go : (v : Verdict) → andThen (check s) (needRoom (length (reportText (setOf s))) old) ≡ v → mid ≡ onAccept v (laid (reportText (setOf s)) old) old → length mid ≡ length old
+      go : (v : Verdict) → andThen (takeSet s) (needRoom (length (reportText (setOf s))) old) ≡ v → mid ≡ onAccept v (laid (reportText (setOf s)) old) old → length mid ≡ length old
       go Accepted e m =
-          let r = room-long (length (reportText (setOf s))) old (then-second (check s) (needRoom (length (reportText (setOf s))) old) e) in
+          let r = room-long (length (reportText (setOf s))) old (then-second (takeSet s) (needRoom (length (reportText (setOf s))) old) e) in
           ap length m ∙ length-laid (reportText (setOf s)) old r
       go (Refused number place) e m = ap length m
 
@@ -178,25 +178,25 @@ module _ (s : List ℕ) where
   pub report-inside : (old mid : List ℕ) (answer : LengthAnswer) (bytes : ℕ) → Promise reportEntry s old answer mid → answer ≡ long.Length bytes → bytes ≤ length mid
   unfolding reportEntry lengthTells tell
   report-inside old mid answer bytes P e =
-      let v : andThen (check s) (needRoom (length (reportText (setOf s))) old) ≡ Accepted = tells-accepted _ (length (reportText (setOf s)) ∷ []) (bytes ∷ []) (sym (ap lengthTells e) ∙ P .answer) in
+      let v : andThen (takeSet s) (needRoom (length (reportText (setOf s))) old) ≡ Accepted = tells-accepted _ (length (reportText (setOf s)) ∷ []) (bytes ∷ []) (sym (ap lengthTells e) ∙ P .answer) in
       let a : accepted (bytes ∷ []) ≡ accepted (length (reportText (setOf s)) ∷ []) = sym (ap lengthTells e) ∙ P .answer ∙ ap (λ (x : Verdict). tell x (length (reportText (setOf s)) ∷ [])) v in
       let z : bytes ≡ length (reportText (setOf s)) = cc in
-      let r = room-long (length (reportText (setOf s))) old (then-second (check s) (needRoom (length (reportText (setOf s))) old) v) in
+      let r = room-long (length (reportText (setOf s))) old (then-second (takeSet s) (needRoom (length (reportText (setOf s))) old) v) in
       omega (arith, same-room old mid answer P)
 
   pub printed-of : (old mid new : List ℕ) (answer : LengthAnswer) (r : ℕ) → Promise reportEntry s old answer mid → Says answer mid r new → longest .report ≡ length mid → Printed s old r new
   unfolding reportEntry lengthTells tell onAccept printed
   printed-of old mid new answer r P (it e m) l =
       let o = l ∙ same-room old mid answer P in
-      let v : andThen (check s) (needRoom (length (reportText (setOf s))) old) ≡ Accepted = tells-accepted _ (length (reportText (setOf s)) ∷ []) (r ∷ []) (sym (ap lengthTells e) ∙ P .answer) in
-      let c : check s ≡ Accepted = sym (report-verdict s old o) ∙ v in
+      let v : andThen (takeSet s) (needRoom (length (reportText (setOf s))) old) ≡ Accepted = tells-accepted _ (length (reportText (setOf s)) ∷ []) (r ∷ []) (sym (ap lengthTells e) ∙ P .answer) in
+      let c : takeSet s ≡ Accepted = sym (report-verdict s old o) ∙ v in
       let a : accepted (r ∷ []) ≡ accepted (length (reportText (setOf s)) ∷ []) = sym (ap lengthTells e) ∙ P .answer ∙ ap (λ (x : Verdict). tell x (length (reportText (setOf s)) ∷ [])) v in
       let z : r ≡ length (reportText (setOf s)) = cc in
-      record { is = m ∙ P .lent ∙ rw (v, c); long = z ∙ rw c; fits = omega (arith, ap length m, report-fits (setOf s) (checked-set s c)) }
+      record { is = m ∙ P .lent ∙ rw (v, c); long = z ∙ rw c; fits = omega (arith, ap length m, report-fits (setOf s) (set-accepted s c)) }
   printed-of old mid new answer r P (line number place e w) l =
       let o = l ∙ same-room old mid answer P in
-      let v : andThen (check s) (needRoom (length (reportText (setOf s))) old) ≡ Refused number place = tells-refused _ (length (reportText (setOf s)) ∷ []) number place (sym (ap lengthTells e) ∙ P .answer) in
-      let c : check s ≡ Refused number place = sym (report-verdict s old o) ∙ v in
+      let v : andThen (takeSet s) (needRoom (length (reportText (setOf s))) old) ≡ Refused number place = tells-refused _ (length (reportText (setOf s)) ∷ []) number place (sym (ap lengthTells e) ∙ P .answer) in
+      let c : takeSet s ≡ Refused number place = sym (report-verdict s old o) ∙ v in
       let m : mid ≡ old = P .lent ∙ ap (λ (x : Verdict). onAccept x (laid (reportText (setOf s)) old) old) v in
       let z : r ≡ length (refusalLine number place) = w .on ∙ zero-add (length (refusalLine number place)) in
       record {

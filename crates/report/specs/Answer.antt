@@ -9,7 +9,7 @@ use Rattle.rules.specs.Basics.{laid}
 use Rattle.rules.specs.declared.Verdict.the-variants.{Accepted}
 use Rattle.rules.specs.Limits.{tablesLength}
 use Rattle.rules.specs.File.{headerOf, setOf}
-use Rattle.rules.specs.Judgement.{check}
+use Rattle.rules.specs.Judgement.{takeSet}
 use Rattle.rules.specs.Report.{refusalLine, printed}
 use Rattle.rules.specs.Entries.Entry.{Promise}
 use Rattle.rules.specs.Entries.Tables.{tablesEntry}
@@ -18,7 +18,7 @@ use Rattle.text.specs.Text.{Wrote, labelledRoom}
 -- what the entry `tables` answered of file s, and the tables it left in room that is enough for them
 pub record Made (s : List ℕ) (answer : LengthAnswer) (tables : List ℕ) : Type 0 where
   pub before : List ℕ
-  pub enough : check s ≡ Accepted → tablesLength (headerOf s) ≤ length before
+  pub enough : takeSet s ≡ Accepted → tablesLength (headerOf s) ≤ length before
   pub kept : Promise tablesEntry s before answer tables
 
 -- the line of a refusal: two labels with their numbers, and the newline
@@ -32,6 +32,6 @@ pub data Says (answer : LengthAnswer) (old : List ℕ) (r : ℕ) (new : List ℕ
 
 -- what the program prints of file s stands at the front of the text, r bytes
 pub record Printed (s old : List ℕ) (r : ℕ) (new : List ℕ) : Type 0 where
-  pub is : new ≡ laid (printed (setOf s) (check s)) old
-  pub long : r ≡ length (printed (setOf s) (check s))
+  pub is : new ≡ laid (printed (setOf s) (takeSet s)) old
+  pub long : r ≡ length (printed (setOf s) (takeSet s))
   pub fits : r ≤ length new

@@ -12,13 +12,13 @@ use Rattle.rules.specs.Basics.{upTo, flat, laid}
 use Rattle.rules.specs.Limits.{rowWeights, homeRecords}
 use Rattle.rules.specs.File.{Set, headerOf, endA, endB, linkWeight, homeTopology, rowWeight, setOf}
 use Rattle.rules.specs.Distance.{tableBytes}
-use Rattle.rules.specs.Judgement.{check}
+use Rattle.rules.specs.Judgement.{takeSet}
 use Rattle.rules.specs.Entries.Lists.{Lists, lists, LongLists}
 use Rattle.rules.specs.Entries.Write.{setWith}
 use Rattle.rules.specs.Sets.{WithinLimits, AcceptedSet}
 use Rattle.rules.proofs.Ground.Rows.{prefix-long, length-upTo, length-flat}
 use Rattle.rules.proofs.File.SetOfBytes.{net-held}
-use Rattle.rules.proofs.File.Checked.{checked-set}
+use Rattle.rules.proofs.File.TakenIn.{set-accepted}
 use Rattle.rules.proofs.Isolation.HomesAndRows.{homes-all}
 use Rattle.listing.specs.Fields.{rowOf, listsOf}
 use Rattle.tablefilling.specs.Parts.{Exact, Wide, HoldSet}
@@ -29,9 +29,9 @@ laid-whole : (new old : List ℕ) → length old ≤ length new → laid new old
 unfolding laid
 laid-whole new old h = ap (λ (l : List ℕ). new ++ l) (drop-of-length-le old h) ∙ append-nil new
 
-module _ (s : List ℕ) (h : Network) (n : h ≡ headerOf s) (c : check s ≡ Accepted) where
+module _ (s : List ℕ) (h : Network) (n : h ≡ headerOf s) (c : takeSet s ≡ Accepted) where
   some : 1 ≤ h .k
-  some = rw (n, ← net-held s) (checked-set s c .topologies)
+  some = rw (n, ← net-held s) (set-accepted s c .topologies)
 
   nodes : homeRecords h ≡ h .n
   nodes = homes-all h some
@@ -51,7 +51,7 @@ module _ (s : List ℕ) (h : Network) (n : h ≡ headerOf s) (c : check s ≡ Ac
       ap (setWith h) (q ∙ (λ i. record { a = a i; b = b i; weights = w i; homes = v i; rows = r i }))
       ∙ ap (λ (k : Network). record { net = k; a = upTo (endA s) (k .m); b = upTo (endB s) (k .m); weights = upTo (linkWeight s) (k .m); homes = upTo (homeTopology s k) (homeRecords k); rows = flat (λ j. upTo (rowWeight s k j) (rowWeights k)) (k .k) }) n
 
-pub room-of : (h : Network) (d : Lists) (s : List ℕ) → h ≡ headerOf s → check s ≡ Accepted → Exact h d → LongLists h d
+pub room-of : (h : Network) (d : Lists) (s : List ℕ) → h ≡ headerOf s → takeSet s ≡ Accepted → Exact h d → LongLists h d
 room-of h d s n c x =
     record {
       a = omega (arith, x .a);
@@ -61,20 +61,20 @@ room-of h d s n c x =
       rows = omega (arith, x .rows);
     }
 
-pub lists-held : (s : List ℕ) (h : Network) (d e : Lists) → h ≡ headerOf s → check s ≡ Accepted → Exact h d → e ≡ listsOf s h d → HoldSet s h e
-lists-held s h d e n c x q = record { checked = c; set = held s h n c d e x q }
+pub lists-held : (s : List ℕ) (h : Network) (d e : Lists) → h ≡ headerOf s → takeSet s ≡ Accepted → Exact h d → e ≡ listsOf s h d → HoldSet s h e
+lists-held s h d e n c x q = record { accepted = c; set = held s h n c d e x q }
 
 pub accepted-lists : (s : List ℕ) (h : Network) (d : Lists) → HoldSet s h d → AcceptedSet (setWith h d)
-accepted-lists s h d H = subst (λ (S : Set). AcceptedSet S) (sym (H .set)) (checked-set s (H .checked))
+accepted-lists s h d H = subst (λ (S : Set). AcceptedSet S) (sym (H .set)) (set-accepted s (H .accepted))
 
 pub tables-held : (s : List ℕ) (h : Network) (d : Lists) (t : List ℕ) → HoldSet s h d → t ≡ tableBytes (setWith h d) → t ≡ tableBytes (setOf s)
 tables-held s h d t H g = g ∙ ap tableBytes (H .set)
 
 -- ---- parts of longer lists
 
-module _ (s : List ℕ) (h : Network) (n : h ≡ headerOf s) (c : check s ≡ Accepted) where
+module _ (s : List ℕ) (h : Network) (n : h ≡ headerOf s) (c : takeSet s ≡ Accepted) where
   limits : WithinLimits h
-  limits = rw (n, ← net-held s) (checked-set s c .rules .limits)
+  limits = rw (n, ← net-held s) (set-accepted s c .rules .limits)
 
   pub links-fit : h .m ≤ 128
   links-fit = limits .links .1
@@ -102,7 +102,7 @@ module _ (s : List ℕ) (h : Network) (n : h ≡ headerOf s) (c : check s ≡ Ac
     pub entries-fit : (entries : ℕ) → entries ≡ h .k * rowWeights h → entries ≤ length r
     entries-fit entries e = omega (arith, rows-fit, x .rows)
 
-pub parts-exact : (s : List ℕ) (h : Network) (a b w v r : List ℕ) (entries : ℕ) → h ≡ headerOf s → check s ≡ Accepted → Wide (lists a b w v r) → entries ≡ h .k * rowWeights h → Exact h (lists (take (h .m) a) (take (h .m) b) (take (h .m) w) (take (h .n) v) (take entries r))
+pub parts-exact : (s : List ℕ) (h : Network) (a b w v r : List ℕ) (entries : ℕ) → h ≡ headerOf s → takeSet s ≡ Accepted → Wide (lists a b w v r) → entries ≡ h .k * rowWeights h → Exact h (lists (take (h .m) a) (take (h .m) b) (take (h .m) w) (take (h .n) v) (take entries r))
 parts-exact s h a b w v r entries n c x e =
     let m = links-fit s h n c in
     let k = nodes-fit s h n c in

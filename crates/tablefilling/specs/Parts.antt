@@ -7,7 +7,7 @@ use Rattle.rules.specs.declared.Network.{Network}
 use Rattle.rules.specs.declared.Verdict.the-variants.{Accepted}
 use Rattle.rules.specs.Limits.{rowWeights, largest}
 use Rattle.rules.specs.File.{setOf}
-use Rattle.rules.specs.Judgement.{check}
+use Rattle.rules.specs.Judgement.{takeSet}
 use Rattle.rules.specs.Entries.Lists.{Lists}
 use Rattle.rules.specs.Entries.Write.{setWith}
 
@@ -29,5 +29,5 @@ pub record Wide (d : Lists) : Type 0 where
 
 -- lists that hold the set of an accepted file
 pub record HoldSet (s : List ℕ) (h : Network) (d : Lists) : Type 0 where
-  pub checked : check s ≡ Accepted
+  pub accepted : takeSet s ≡ Accepted
   pub set : setWith h d ≡ setOf s

@@ -10,7 +10,7 @@ ghost use Rattle.rules.specs.declared.Verdict.the-variants.{Accepted};
 ghost use Rattle.rules.specs.Limits.{tablesLength, largest};
 ghost use Rattle.rules.specs.File.{headerOf, setOf};
 ghost use Rattle.rules.specs.Distance.{tableBytes};
-ghost use Rattle.rules.specs.Judgement.{check};
+ghost use Rattle.rules.specs.Judgement.{takeSet};
 ghost use Rattle.rules.specs.Entries.Lists.{lists};
 ghost use Rattle.tablefilling.specs.Parts.{Exact, Wide, HoldSet};
 
@@ -43,7 +43,7 @@ fn from_lists(
     rows: &mut [u16],
     out: &mut [u8],
 )
-    requires { ⌜ check (now file) ≡ Accepted ⌝ }
+    requires { ⌜ takeSet (now file) ≡ Accepted ⌝ }
     requires { ⌜ net ≡ headerOf (now file) ⌝ }
     requires { ⌜ Exact net (lists (now a) (now b) (now weights) (now homes) (now rows)) ⌝ }
     requires { ⌜ length (now out) ≡ tablesLength net ⌝ }
@@ -64,7 +64,7 @@ fn in_parts(
     rows: &mut [u16],
     out: &mut [u8],
 )
-    requires { ⌜ check (now file) ≡ Accepted ⌝ }
+    requires { ⌜ takeSet (now file) ≡ Accepted ⌝ }
     requires { ⌜ net ≡ headerOf (now file) ⌝ }
     requires { ⌜ Wide (lists (now a) (now b) (now weights) (now homes) (now rows)) ⌝ }
     requires { ⌜ length (now out) ≡ tablesLength net ⌝ }
@@ -113,7 +113,7 @@ fn backup_weights() -> [u16; Network::MOST_ROW_WEIGHTS]
 // Rules out: paths through node 0 overlooked `routes/one_pass_too_few`; an alternate by the least distance to another node than
 // v `rules/alternate_by_the_first_link`.
 pub fn fill(file: &[u8], net: Network, out: &mut [u8])
-    requires { ⌜ check (now file) ≡ Accepted ⌝ }
+    requires { ⌜ takeSet (now file) ≡ Accepted ⌝ }
     requires { ⌜ net ≡ headerOf (now file) ⌝ }
     requires { ⌜ length (now out) ≡ tablesLength net ⌝ }
     ensures { λ _. ⌜ now (out .exit) ≡ tableBytes (setOf (now (file .entry))) ⌝ }

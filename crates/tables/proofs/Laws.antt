@@ -14,7 +14,7 @@ use Rattle.rules.specs.Basics.{need, laid}
 use Rattle.rules.specs.Limits.{tablesLength}
 use Rattle.rules.specs.File.{headerOf, setOf}
 use Rattle.rules.specs.Distance.{tableBytes}
-use Rattle.rules.specs.Judgement.{refuse, andThen, check, needRoom}
+use Rattle.rules.specs.Judgement.{refuse, andThen, takeSet, needRoom}
 use Rattle.rules.specs.Answers.{tell, lengthTells}
 use Rattle.rules.specs.Entries.Entry.{onAccept, Promise}
 use Rattle.rules.specs.Entries.Tables.{tablesEntry}
@@ -24,7 +24,7 @@ use Rattle.rules.proofs.File.SetOfBytes.{net-held}
 use Rattle.rules.proofs.Forwarding.LentTables.{bytes-long}
 use Rattle.tables.specs.Verdicts.{tablesVerdict}
 
-pub verdict-is : (s : List ℕ) (room bytes : ℕ) (h : Network) (u v w : Verdict) → u ≡ check s → h ≡ headerOf s → bytes ≡ tablesLength h → v ≡ refuse (need (leb bytes room) 14 0) 0 → w ≡ andThen u v → w ≡ tablesVerdict s room
+pub verdict-is : (s : List ℕ) (room bytes : ℕ) (h : Network) (u v w : Verdict) → u ≡ takeSet s → h ≡ headerOf s → bytes ≡ tablesLength h → v ≡ refuse (need (leb bytes room) 14 0) 0 → w ≡ andThen u v → w ≡ tablesVerdict s room
 unfolding tablesVerdict
 verdict-is s room bytes h u v w e n d g z = cc (ap tablesLength n)
 
@@ -36,13 +36,13 @@ module _ (s out : List ℕ) (v : Verdict) (t : v ≡ Accepted) (e : v ≡ tables
   taken : tablesVerdict s (length out) ≡ Accepted
   taken = sym e ∙ t
 
-  pub checked : check s ≡ Accepted
+  pub set-taken : takeSet s ≡ Accepted
   unfolding tablesVerdict
-  checked = then-first (check s) _ taken
+  set-taken = then-first (takeSet s) _ taken
 
   pub enough : tablesLength (headerOf s) ≤ length out
   unfolding tablesVerdict
-  enough = leb-true _ _ (need-ok _ _ _ (refuse-zero _ 0 (then-second (check s) _ taken)) .0)
+  enough = leb-true _ _ (need-ok _ _ _ (refuse-zero _ 0 (then-second (takeSet s) _ taken)) .0)
 
 pub room-part : (s out : List ℕ) (v : Verdict) (h : Network) (bytes : ℕ) → v ≡ Accepted → v ≡ tablesVerdict s (length out) → h ≡ headerOf s → bytes ≡ tablesLength h → bytes ≤ length out
 room-part s out v h bytes t e n d = rw (d, n) (enough s out v t e)
@@ -50,8 +50,8 @@ room-part s out v h bytes t e n d = rw (d, n) (enough s out v t e)
 pub part-long : (s out : List ℕ) (v : Verdict) (h : Network) (bytes : ℕ) → v ≡ Accepted → v ≡ tablesVerdict s (length out) → h ≡ headerOf s → bytes ≡ tablesLength h → length (take bytes out) ≡ tablesLength h
 part-long s out v h bytes t e n d = length-take-le bytes out (room-part s out v h bytes t e n d) ∙ d
 
-pub is-checked : (s out : List ℕ) (v : Verdict) → v ≡ Accepted → v ≡ tablesVerdict s (length out) → check s ≡ Accepted
-is-checked s out v t e = checked s out v t e
+pub is-taken : (s out : List ℕ) (v : Verdict) → v ≡ Accepted → v ≡ tablesVerdict s (length out) → takeSet s ≡ Accepted
+is-taken s out v t e = set-taken s out v t e
 
 pub tables-taken : (s out t : List ℕ) (v : Verdict) (h : Network) (bytes : ℕ) → v ≡ Accepted → v ≡ tablesVerdict s (length out) → h ≡ headerOf s → bytes ≡ tablesLength h → t ≡ tableBytes (setOf s) → Promise tablesEntry s out (long.Length bytes) (t ++ drop bytes out)
 unfolding tablesEntry lengthTells tell onAccept laid
@@ -67,4 +67,4 @@ tables-refused s out v number place e d =
     let z : tablesEntry .verdict s out ≡ Refused number place = verdict-same s out ∙ sym d ∙ e in
     record { answer = rw z; lent = rw z }
 
-pub ruleset tabling = (prefix-long, verdict-is, room-part, part-long, is-checked, tables-taken, tables-refused)
+pub ruleset tabling = (prefix-long, verdict-is, room-part, part-long, is-taken, tables-taken, tables-refused)

@@ -15,7 +15,7 @@ use Rattle.rules.specs.declared.LengthAnswer.the-variants as answer
 use Rattle.rules.specs.Basics.{need, laid}
 use Rattle.rules.specs.Limits.{needCounts, fileLength, longest}
 use Rattle.rules.specs.File.{encode}
-use Rattle.rules.specs.Judgement.{refuse, andThen, judge, needRoom}
+use Rattle.rules.specs.Judgement.{refuse, andThen, takeIn, needRoom}
 use Rattle.rules.specs.Answers.{tell, lengthTells}
 use Rattle.rules.specs.Entries.Entry.{onAccept, Promise}
 use Rattle.rules.specs.Entries.Lists.{Lists, lists, needLists}
@@ -62,7 +62,7 @@ pub ruleset own-room = (room-held, part-counted, part-is)
 
 -- ---- a laid file
 
-module _ (s before : List ℕ) (long wanted : ℕ) (u w v : Verdict) (eu : u ≡ judge s) (ew : w ≡ refuse (need (leb (length s) (length before)) 14 0) 0) (ev : v ≡ andThen u w) where
+module _ (s before : List ℕ) (long wanted : ℕ) (u w v : Verdict) (eu : u ≡ takeIn s) (ew : w ≡ refuse (need (leb (length s) (length before)) 14 0) 0) (ev : v ≡ andThen u w) where
   verdict-is : v ≡ laidVerdict s (length before)
   unfolding laidVerdict
   verdict-is = ev ∙ rw (eu, ew)
@@ -113,7 +113,7 @@ module _ (h : Network) (a b weights homes rows file : List ℕ) (v : Verdict) (e
       ≡ andThen (refuse (needCounts h 0) 0) (andThen (needLists 1 h given) (laidVerdict (encode (setWith h given)) (length file)))
   unfolding writeEntry laidVerdict needRoom setWith
   entry-verdict =
-      ap (λ (x : ℕ). andThen (refuse (needCounts h 0) 0) (andThen (needLists 1 h given) (andThen (judge (encode (setWith h given))) (refuse (need (leb x (length file)) 14 0) 0))))
+      ap (λ (x : ℕ). andThen (refuse (needCounts h 0) 0) (andThen (needLists 1 h given) (andThen (takeIn (encode (setWith h given))) (refuse (need (leb x (length file)) 14 0) 0))))
       (sym (encode-long (setWith h given)))
 
   lists-same : listsVerdict 1 h (length a) (length b) (length weights) (length homes) (length rows) ≡ needLists 1 h given

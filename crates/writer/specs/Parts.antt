@@ -9,7 +9,7 @@ use Rattle.rules.specs.declared.Verdict.{Verdict}
 use Rattle.rules.specs.declared.LengthAnswer.{LengthAnswer}
 use Rattle.rules.specs.Basics.{need, laid}
 use Rattle.rules.specs.Limits.{needCounts}
-use Rattle.rules.specs.Judgement.{refuse, andThen, judge}
+use Rattle.rules.specs.Judgement.{refuse, andThen, takeIn}
 use Rattle.rules.specs.Answers.{tell, lengthTells}
 use Rattle.rules.specs.Entries.Entry.{onAccept}
 use Rattle.needs.specs.Numbers.{listsVerdict}
@@ -20,7 +20,7 @@ givenVerdict h a b weights homes rows = andThen (refuse (needCounts h 0) 0) (lis
 
 -- the verdict on a file s that is laid, and on lent room of this length
 unfoldable pub laidVerdict : List ℕ → ℕ → Verdict
-laidVerdict s room = andThen (judge s) (refuse (need (leb (length s) room) 14 0) 0)
+laidVerdict s room = andThen (takeIn s) (refuse (need (leb (length s) room) 14 0) 0)
 
 -- what it answers and leaves: its length and itself at the front of the room, or the refusal and the room as it came
 pub record Copied (s before : List ℕ) (r : LengthAnswer) (after : List ℕ) : Type 0 where

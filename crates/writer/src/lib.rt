@@ -1,9 +1,9 @@
 // The writer: from a header and five lists to the file of the set that they are. `write` promises, for any lists and any room, the
 // refusal that the reader would give for what it would write, 1 for a list that is too short, 14 for room that is too short, or the
 // file at the front of the room; a refusal leaves the room as it came. Entries past the counts are neither written nor compared.
-// The lists are laid as bytes (`laying`) in room of the writer's own, those bytes are judged as every file is, and only then are they
-// copied into the lent file.
-use judgement::judge;
+// The lists are laid as bytes (`laying`) in room of the writer's own, those bytes are taken in as every file is (`intake`: 1 to 6 by
+// record, 7 and 8 by topology), and only then are they copied into the lent file.
+use intake::take_in;
 use needs::need_lists;
 use needs::need_room;
 use needs::refuse;
@@ -30,12 +30,12 @@ fn given(net: Network, a: usize, b: usize, weights: usize, homes: usize, rows: u
     then(counts, long)
 }
 
-// A file that is laid: judged, and copied where there is room.
+// A file that is laid: taken in, and copied where there is room.
 fn copied(laid: &[u8], file: &mut [u8]) -> LengthAnswer
     ensures { λ r. ⌜ Copied (now (laid .entry)) (now (file .entry)) r (now (file .exit)) ⌝ }
 {
     let room = need_room(laid.len(), file.len());
-    let v = then(judge(laid), room);
+    let v = then(take_in(laid), room);
     match v {
         Verdict::Accepted => LengthAnswer::Length(bytes::copy(laid, file)),
         Verdict::Refused { number, place } => LengthAnswer::Refused { number, place },
@@ -80,8 +80,8 @@ fn in_own_room(
 
 // Writes the file of these lists into lent room.
 // Rules out: 14 for a set that breaks a rule too, which is told first `room_before_records`; 14 for a list that is too short,
-// which is 1 `short_list_is_fourteen`; also `judgement/every_home_judged_by_the_first`, `judgement/place_of_an_earlier_record`,
-// `laying/every_row_at_the_first_place`.
+// which is 1 `short_list_is_fourteen`; a set stored that breaks 8 `rules/the_writer_stores_what_breaks_eight`; also
+// `judgement/every_home_judged_by_the_first`, `judgement/place_of_an_earlier_record`, `laying/every_row_at_the_first_place`.
 pub fn write(
     net: Network,
     a: &[u8],

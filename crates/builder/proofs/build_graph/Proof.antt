@@ -1,4 +1,4 @@
-use Rattle.checker.proofs.Files.{ends-of, few-of}
+use Rattle.intake.proofs.Files.{ends-of, few-of}
 use borrow.Author.Needs.{needs}
 use Rattle.builder.proofs.build_graph.Statement.{statement}
 use Rattle.builder.proofs.build_graph.Tie as tie

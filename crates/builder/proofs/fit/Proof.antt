@@ -1,5 +1,5 @@
 use Rattle.builder.proofs.Answers.{all-fitted, not-placed}
-use Rattle.checker.proofs.Files.{few-of, some-of}
+use Rattle.intake.proofs.Files.{few-of, some-of}
 use borrow.Author.Needs.{needs}
 use Rattle.builder.proofs.fit.Statement.{statement}
 use Rattle.builder.proofs.fit.Tie as tie

@@ -12,8 +12,8 @@ need-graph-requires c κs = search needs
 need-cap-requires : tie.Need-need-cap-requires
 need-cap-requires c κs = search needs
 
-judge-requires : tie.Need-judge-requires
-judge-requires c κs = search needs
+take-in-requires : tie.Need-take-in-requires
+take-in-requires c κs = search needs
 
 then-requires : tie.Need-then-requires
 then-requires c κs = search needs
@@ -31,7 +31,7 @@ input-verdict-spec =
     header-requires
     need-graph-requires
     need-cap-requires
-    judge-requires
+    take-in-requires
     then-requires
     then-requires-2
     returns)

@@ -6,8 +6,8 @@ use Rattle.writer.proofs.copied.Tie as tie
 need-room-requires : tie.Need-need-room-requires
 need-room-requires c κs = search needs
 
-judge-requires : tie.Need-judge-requires
-judge-requires c κs = search needs
+take-in-requires : tie.Need-take-in-requires
+take-in-requires c κs = search needs
 
 then-requires : tie.Need-then-requires
 then-requires c κs = search needs
@@ -35,7 +35,7 @@ copied-spec =
     tie.close
     (tie.spec
     need-room-requires
-    judge-requires
+    take-in-requires
     then-requires
     enum-told
     copy-requires
