@@ -1,6 +1,8 @@
 // Forwarding by 01, section 'Forwarding': one hop of a packet (`hop`), by the tables that are lent, as they are; and the whole run
 // (`travel`) from a source to a destination under one failure, by the tables that it makes itself. The entries `step` and `run` take
-// every input; their promises fix the answer, every byte of the trail and every byte of the tables.
+// every input; their promises fix the answer, every byte of the trail and every byte of the tables. A run takes in its file, 7 and 8
+// among the refusals; a step does not repeat them.
+use intake::take_set;
 use judgement::judge;
 use layout::header;
 use needs::need_packet;
@@ -83,7 +85,7 @@ fn run_verdict(
     ensures { λ r. ⌜ r ≡ runVerdict (runInput (now (file .entry)) source destination failure) tables trail ⌝ }
 {
     let net = header(file);
-    let set = intake::take_set(file);
+    let set = take_set(file);
     let start = Packet {
         place: source,
         destination,
@@ -116,7 +118,7 @@ fn run_in(
 
 // A packet's run from a source to its destination, with something down or nothing.
 // Rules out: delivered, where the packet was dropped `travel/delivery_claimed_for_a_drop`; a trail that does not begin with the
-// source `travel/the_trail_without_its_source`.
+// source `travel/the_trail_without_its_source`; also `seven_and_eight_left_out`.
 pub fn run(
     file: &[u8],
     source: u8,

@@ -1,7 +1,7 @@
 -- What the proofs of the functions over a file's bytes cite.
 use mathlib.Core.Path.{_≡_, refl, sym, ap, _∙_}
 use mathlib.Core.List.{List}
-use Prim.Native.Nat.{ℕ, suc, _+_, _-_, _≤_, _<_}
+use Prim.Native.Nat.{ℕ, zero, suc, _+_, _-_, _≤_, _<_}
 use native.Mathlib.Numerals.{add-one}
 use native.Mathlib.Omega.{arith}
 use lib.ListN.{length, getD, replicate}
@@ -18,7 +18,7 @@ use Rattle.layout.proofs.Places.{link-inside}
 use Rattle.topologyrules.specs.Entered.{entered}
 use Rattle.topologyrules.specs.Topology.{numberBy}
 use Rattle.topologyrules.proofs.Same.{number-same}
-use Rattle.intake.specs.Graph.{linked, neighbourWords, isolatedWords, turnsBy, Ends, Homes}
+use Rattle.intake.specs.Graph.{linked, neighbourWords, isolatedWords, isolatedIn, turnsBy, Ends, Homes}
 use Rattle.intake.proofs.Graph.{words-of, isolated-words-are, accepted-ends, accepted-homes, accepted-few, accepted-some, accepted-topologies}
 
 -- ---- neighbour_words
@@ -73,27 +73,41 @@ node-low s h H v count l ec = let q = H .few in omega arith
 
 pub ruleset homes-low = (home-some, home-low, node-low)
 
+-- ---- isolated_in
+
+pub none-isolated : (isos : List ℕ) (i : ℕ) → i ≡ 0 → 0 ≡ isolatedIn isos i
+unfolding isolatedIn
+none-isolated isos i e = rw e
+
+pub word-there : (isos : List ℕ) (i x w : ℕ) → (i ≡ 0 → ⊥) → x ≡ i - 1 → w ≡ getD isos x 0 → w ≡ isolatedIn isos i
+unfolding isolatedIn
+word-there isos i x w some ex ew = ew ∙ ap (λ (y : ℕ). getD isos y 0) ex ∙ at i some
+  where
+    at : (y : ℕ) → (y ≡ 0 → ⊥) → getD isos (y - 1) 0 ≡ isolatedIn isos y
+    at zero f = absurd (f refl)
+    at (suc y) f = ap (λ (z : ℕ). getD isos z 0) (omega arith)
+
 -- ---- in_turn
 
 module _ (nb : List ℕ) (n : ℕ) (isos : List ℕ) where
   abbrev turn : ℕ → Verdict
-  turn x = refuse (numberBy nb n (getD isos x 0)) (suc x)
+  turn x = refuse (numberBy nb n (isolatedIn isos (suc x))) (suc x)
 
   pub turns-none : turnsBy nb n isos 0 ≡ Accepted
   unfolding turnsBy
   turns-none = turn-none turn
 
-  module _ (j iso r : ℕ) (t : turnsBy nb n isos j ≡ Accepted) (ew : iso ≡ getD isos j 0) (er : r ≡ numberBy nb n iso) where
-    number-is : numberBy nb n (getD isos j 0) ≡ r
-    number-is = ap (numberBy nb n) (sym ew) ∙ sym er
+  module _ (j i iso r : ℕ) (t : turnsBy nb n isos j ≡ Accepted) (ei : i ≡ j + 1) (ew : iso ≡ isolatedIn isos i) (er : r ≡ numberBy nb n iso) where
+    number-is : numberBy nb n (isolatedIn isos (suc j)) ≡ r
+    number-is = ap (λ (x : ℕ). numberBy nb n (isolatedIn isos x)) (sym (ei ∙ add-one j)) ∙ ap (numberBy nb n) (sym ew) ∙ sym er
 
     pub turns-more : r ≡ 0 → turnsBy nb n isos (j + 1) ≡ Accepted
     unfolding turnsBy
-    turns-more z = turn-more turn j t (sym (refuse-ok (numberBy nb n (getD isos j 0)) (suc j) (number-is ∙ z)))
+    turns-more z = turn-more turn j t (sym (refuse-ok (numberBy nb n (isolatedIn isos (suc j))) (suc j) (number-is ∙ z)))
 
-    pub turns-out : (i k : ℕ) → i ≡ j + 1 → (r ≡ 0 → ⊥) → j < k → Refused r i ≡ turnsBy nb n isos k
+    pub turns-out : (k : ℕ) → (r ≡ 0 → ⊥) → j < k → Refused r i ≡ turnsBy nb n isos k
     unfolding turnsBy
-    turns-out i k ei z l =
+    turns-out k z l =
         let e : i ≡ suc j = ei ∙ add-one j in
         sym (turn-stop turn j k r i l t (ap (λ (x : ℕ). refuse x (suc j)) number-is ∙ rw e (sym (refuse-no r (suc j) z))))
 
@@ -120,7 +134,7 @@ some-of s h eh a = rw eh (let l = accepted-some s a in omega arith)
 -- by the words of its own links and homes, the topologies in turn are those of the set
 held-turns : (s : List ℕ) → judge s ≡ Accepted
     → turnsBy (neighbourWords s (headerOf s .m)) (headerOf s .n) (isolatedWords s (headerOf s) (homeRecords (headerOf s))) (headerOf s .k) ≡ topologies (setOf s)
-unfolding turnsBy topologies setOf
+unfolding turnsBy isolatedIn topologies setOf
 held-turns s a =
     let h : Network = headerOf s in
     let k = accepted-topologies s a in

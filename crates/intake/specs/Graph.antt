@@ -24,9 +24,14 @@ unfoldable pub isolatedWords : List ℕ → Network → ℕ → List ℕ
 isolatedWords s h zero = replicate 32 0
 isolatedWords s h (suc v) = entered (isolatedWords s h v) (homeTopology s h v - 1) v
 
+-- the isolated nodes of topology i, by these words; none in topology 0
+unfoldable pub isolatedIn : List ℕ → ℕ → ℕ
+isolatedIn isos zero = 0
+isolatedIn isos (suc j) = getD isos j 0
+
 -- 7 and 8 by words, topology by topology
 unfoldable pub turnsBy : List ℕ → ℕ → List ℕ → ℕ → Verdict
-turnsBy nb n isos k = inTurn (λ j. refuse (numberBy nb n (getD isos j 0)) (suc j)) k
+turnsBy nb n isos k = inTurn (λ j. refuse (numberBy nb n (isolatedIn isos (suc j))) (suc j)) k
 
 -- the first m links stand in the file, and their ends are nodes below 32
 pub record Ends (s : List ℕ) (m : ℕ) : Type 0 where

@@ -19,7 +19,7 @@ ghost use Rattle.rules.specs.declared.Verdict.the-variants.{Accepted};
 ghost use Rattle.rules.specs.Limits.{homeRecords};
 ghost use Rattle.rules.specs.File.{headerOf, setOf};
 ghost use Rattle.rules.specs.Judgement.{judge, topologies, takeIn, takeSet};
-ghost use Rattle.intake.specs.Graph.{neighbourWords, isolatedWords, turnsBy, Ends, Homes};
+ghost use Rattle.intake.specs.Graph.{neighbourWords, isolatedWords, isolatedIn, turnsBy, Ends, Homes};
 
 // ---- words from a file's bytes
 
@@ -41,7 +41,7 @@ pub fn neighbour_words(file: &[u8], m: u16) -> [u32; Network::MOST_NODES]
 }
 
 // Every topology's isolated nodes, in one pass over the homes: each node is entered in the word of its home, topology 1's first.
-// Rules out: a node in the word of the topology before its home `the_word_of_the_topology_before`; the last node in no word.
+// Rules out: a node in the word of the topology after its home; the last node in no word.
 pub fn isolated_words(file: &[u8], net: Network) -> [u32; Network::MOST_TOPOLOGIES]
     requires { ⌜ Homes (now file) net ⌝ }
     ensures { λ r. ⌜ r ≡ isolatedWords (now (file .entry)) net (homeRecords net) ⌝ }
@@ -59,6 +59,16 @@ pub fn isolated_words(file: &[u8], net: Network) -> [u32; Network::MOST_TOPOLOGI
 
 // ---- 7 and 8
 
+// The isolated nodes of topology i: none in topology 0.
+fn isolated_in(isos: &[u32], i: u8) -> u32
+    ensures { λ r. ⌜ r ≡ isolatedIn (now (isos .entry)) i ⌝ }
+{
+    if i == 0 {
+        return 0;
+    }
+    word(isos, (i - 1) as usize)
+}
+
 // The topologies in turn, by the neighbour words and the words of isolated nodes.
 fn in_turn(net: Network, nb: &[u32], isos: &[u32]) -> Verdict
     requires { ⌜ (1 ≤ net .n) × (net .n ≤ 32) ⌝ }
@@ -67,7 +77,7 @@ fn in_turn(net: Network, nb: &[u32], isos: &[u32]) -> Verdict
     let mut j: u8 = 0;
     while j < net.k {
         let i = j + 1;
-        let number = topology_number(nb, net.n, word(isos, j as usize));
+        let number = topology_number(nb, net.n, isolated_in(isos, i));
         if number != 0 {
             return Verdict::Refused {
                 number,
@@ -106,7 +116,7 @@ fn topology_verdict(file: &[u8], net: Network) -> Verdict
 
 // The verdict on any bytes: 1 to 6 by record, then 7 and 8 by topology.
 // Rules out: accepted, although an isolated node has only one restricted link `topologyrules/one_restricted_link_is_enough`; a
-// refusal's place one topology early `place_one_early`.
+// refusal's place one topology early `place_one_early`; also `the_word_of_the_topology_before`.
 pub fn take_in(file: &[u8]) -> Verdict
     ensures { λ r. ⌜ r ≡ takeIn (now (file .entry)) ⌝ }
 {

@@ -1,5 +1,6 @@
 // The entry: the tables of a set's file. `tables` promises, for any bytes and any room, the published tables at the front of the lent
 // room and their length, or the published refusal with every lent byte as it came: 1 to 6, 7 and 8 by topology, 13, 14.
+use intake::take_set;
 use layout::header;
 use needs::need_room;
 use needs::then;
@@ -14,7 +15,7 @@ ghost use Rattle.tables.specs.Verdicts.{tablesVerdict};
 fn tables_verdict(file: &[u8], room: usize) -> Verdict
     ensures { λ r. ⌜ r ≡ tablesVerdict (now (file .entry)) room ⌝ }
 {
-    let v = intake::take_set(file);
+    let v = take_set(file);
     let long = header(file).tables_length();
     then(v, need_room(long, room))
 }

@@ -35,7 +35,8 @@ fn copied(laid: &[u8], file: &mut [u8]) -> LengthAnswer
     ensures { λ r. ⌜ Copied (now (laid .entry)) (now (file .entry)) r (now (file .exit)) ⌝ }
 {
     let room = need_room(laid.len(), file.len());
-    let v = then(take_in(laid), room);
+    let taken = take_in(laid);
+    let v = then(taken, room);
     match v {
         Verdict::Accepted => LengthAnswer::Length(bytes::copy(laid, file)),
         Verdict::Refused { number, place } => LengthAnswer::Refused { number, place },

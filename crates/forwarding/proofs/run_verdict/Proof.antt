@@ -6,8 +6,8 @@ use Rattle.forwarding.proofs.run_verdict.Tie as tie
 header-requires : tie.Need-header-requires
 header-requires c κs = search needs
 
-verdict-requires : tie.Need-verdict-requires
-verdict-requires c κs = search needs
+take-set-requires : tie.Need-take-set-requires
+take-set-requires c κs = search needs
 
 need-packet-requires : tie.Need-need-packet-requires
 need-packet-requires c κs = search needs
@@ -47,7 +47,7 @@ run-verdict-spec =
     tie.close
     (tie.spec
     header-requires
-    verdict-requires
+    take-set-requires
     need-packet-requires
     need-source-requires
     tables-length-requires

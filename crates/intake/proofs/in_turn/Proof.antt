@@ -19,17 +19,14 @@ loop-holds c = (search needs, search turns)
 add-i : tie.Need-add-i Inv-loop μ-loop
 add-i c = search needs
 
-cast-word : tie.Need-cast-word Inv-loop μ-loop
-cast-word c = search needs
-
-word-requires : tie.Need-word-requires Inv-loop μ-loop
-word-requires c κs = search needs
+isolated-in-requires : tie.Need-isolated-in-requires Inv-loop μ-loop
+isolated-in-requires c κs = search needs
 
 topology-number-requires : tie.Need-topology-number-requires Inv-loop μ-loop
 topology-number-requires c κs = (search needs, search needs)
 
-cast-t10 : tie.Need-cast-t10 Inv-loop μ-loop
-cast-t10 c = search needs
+cast-t9 : tie.Need-cast-t9 Inv-loop μ-loop
+cast-t9 c = search needs
 
 returns : tie.Need-returns Inv-loop μ-loop
 returns c = search turns
@@ -54,10 +51,9 @@ in-turn-spec =
     μ-loop
     loop-holds
     add-i
-    cast-word
-    word-requires
+    isolated-in-requires
     topology-number-requires
-    cast-t10
+    cast-t9
     returns
     add-j
     loop-less

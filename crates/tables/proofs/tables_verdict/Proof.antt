@@ -3,8 +3,8 @@ use borrow.Author.Needs.{needs}
 use Rattle.tables.proofs.tables_verdict.Statement.{statement}
 use Rattle.tables.proofs.tables_verdict.Tie as tie
 
-verdict-requires : tie.Need-verdict-requires
-verdict-requires c κs = search needs
+take-set-requires : tie.Need-take-set-requires
+take-set-requires c κs = search needs
 
 header-requires : tie.Need-header-requires
 header-requires c κs = search needs
@@ -25,7 +25,7 @@ pub tables-verdict-spec : {M : Type 1} → statement M
 tables-verdict-spec =
     tie.close
     (tie.spec
-    verdict-requires
+    take-set-requires
     header-requires
     tables-length-requires
     need-room-requires
