@@ -1,23 +1,30 @@
 // The entries: one small function for each, over the file as the case has it. They are the library's own, as C calls them, so an answer
-// is one word; but for the judge, which the library does not hand out, and the report, which the program `coverage` writes.
+// is one word; but for the report, which the program `coverage` writes.
 use crate::file;
 use crate::room;
 use crate::run::run;
 use crate::sweep;
 use burnishpeg::burnishpeg_build;
-use burnishpeg::burnishpeg_check;
 use burnishpeg::burnishpeg_read;
+use burnishpeg::burnishpeg_report;
+use burnishpeg::burnishpeg_step;
+use burnishpeg::burnishpeg_tables;
+use burnishpeg::burnishpeg_write;
+use listing::lists_into;
 use phrases::show;
+use recordrules::counts;
 use rules::Network;
-use rules::Verdict;
 use std::num::wrapping_add_usize;
 use wording::asked::BUILD;
-use wording::asked::CHECK;
-use wording::asked::JUDGE;
 use wording::asked::READ;
 use wording::asked::REPORT;
+use wording::asked::REPORTED;
 use wording::asked::RUN;
+use wording::asked::STEP;
 use wording::asked::SWEEP;
+use wording::asked::TABLES;
+use wording::asked::TAKE;
+use wording::asked::WRITE;
 use wording::asked::after;
 use wording::asked::entry;
 use wording::asked::failed;
@@ -26,17 +33,20 @@ use wording::asked::up_to;
 use wording::least;
 use wording::number;
 use wording::part;
+ghost use mathlib.Core.Path.{_≡_};
 ghost use Prim.Native.Nat.{_≤_};
+ghost use Rattle.rules.specs.Limits.{needCounts};
 
-// ---- judge FILE
+// ---- take FILE
 
-// Its answer as the library would pack it.
-fn judge(file: &[u8]) -> u64 {
-    let v = file::judge(file);
-    match v {
-        Verdict::Accepted => 0,
-        Verdict::Refused { number, place } => ((0x80000000 | number as u64) << 32) | place as u64,
-    }
+// Read into lists that are long enough for every file, which are not shown.
+fn take(file: &[u8]) -> u64 {
+    let mut a = room::bytes();
+    let mut b = room::bytes();
+    let mut weights = room::wide();
+    let mut homes = room::bytes();
+    let mut rows = room::wide();
+    burnishpeg_read(file, &mut a, &mut b, &mut weights, &mut homes, &mut rows)
 }
 
 // ---- report FILE
@@ -105,7 +115,7 @@ fn rows(set: &[u8], net: Network) {
     }
 }
 
-// The set at the front of a lent file: its homes, each a record's last byte, and its rows; the check of it; the byte that follows.
+// The set at the front of a lent file: its homes, each a record's last byte, and its rows; whether it is taken in; the byte that follows.
 fn built(file: &[u8], long: usize) {
     let net = file::header(file);
     let first = file::home_place(net, 0) + 3;
@@ -113,9 +123,15 @@ fn built(file: &[u8], long: usize) {
     show::say(show::BYTES);
     show::numbers(show::HOMES, file, first, Network::HOME, 255, net.n as usize);
     rows(file, net);
-    show::say(show::ITS_CHECK);
-    show::verdict(burnishpeg_check(part(file, 0, long)));
+    show::say(show::READ_BACK);
+    show::verdict(take(part(file, 0, long)));
     show::numbers(show::BYTE_AFTER, file, long, 1, 255, 1);
+}
+
+// A refusal, and the first byte lent, which stays.
+fn refused(word: u64, lent: &[u8]) {
+    show::refused(word);
+    show::numbers(show::FIRST_BYTE, lent, 0, 1, 255, 1);
 }
 
 fn build_answer(word: u64, room: &[u8; 16384], long: usize) {
@@ -123,10 +139,7 @@ fn build_answer(word: u64, room: &[u8; 16384], long: usize) {
     show::put(b':');
     match word >> 63 {
         0 => built(lent, word as usize),
-        _ => {
-            show::refused(word);
-            show::numbers(show::FIRST_BYTE, lent, 0, 1, 255, 1);
-        }
+        _ => refused(word, lent),
     }
 }
 
@@ -136,6 +149,95 @@ fn build(words: &[u8], graph: &[u8]) {
     let mut file = room::set();
     let word = burnishpeg_build(graph, cap, &mut file[0..long]);
     build_answer(word, &file, long);
+}
+
+// ---- write FILE ROOM
+
+// The lists as they stand in the file's bytes, by the counts of its header, written into a lent file.
+fn write_lists(file: &[u8], net: Network, long: usize)
+    requires { ⌜ (needCounts net 0 ≡ 0) × (long ≤ 16384) ⌝ }
+{
+    let mut a = room::bytes();
+    let mut b = room::bytes();
+    let mut weights = room::wide();
+    let mut homes = room::bytes();
+    let mut rows = room::wide();
+    lists_into(
+        file,
+        net,
+        &mut a,
+        &mut b,
+        &mut weights,
+        &mut homes,
+        &mut rows,
+    );
+    let mut lent = room::set();
+    let word = burnishpeg_write(
+        net.n,
+        net.m,
+        net.k,
+        net.wmax,
+        &a,
+        &b,
+        &weights,
+        &homes,
+        &rows,
+        &mut lent[0..long],
+    );
+    build_answer(word, &lent, long);
+}
+
+// Counts outside their ranges have no lists here.
+fn write(words: &[u8], file: &[u8]) {
+    let net = file::header(file);
+    match counts(net, 0) {
+        0 => write_lists(file, net, up_to(words, 2, 16384)),
+        _ => show::say(show::UNCLEAR),
+    }
+}
+
+// ---- tables FILE ROOM, reported FILE ROOM
+
+// So many bytes, and the one after them.
+fn length(word: u64, lent: &[u8]) {
+    show::next(word);
+    show::say(show::BYTES);
+    show::numbers(show::BYTE_AFTER, lent, word as usize, 1, 255, 1);
+}
+
+fn tables_answer(word: u64, room: &[u8; 65536], long: usize) {
+    let lent = part(room, 0, long);
+    show::put(b':');
+    match word >> 63 {
+        0 => {
+            length(word, lent);
+            show::numbers(show::TABLES, lent, 0, 1, 255, word as usize);
+        }
+        _ => refused(word, lent),
+    }
+}
+
+fn tables(words: &[u8], set: &[u8]) {
+    let long = up_to(words, 2, 65536);
+    let mut lent = room::large();
+    let word = burnishpeg_tables(set, &mut lent[0..long]);
+    tables_answer(word, &lent, long);
+}
+
+fn text_answer(word: u64, room: &[u8; 65536], long: usize) {
+    let lent = part(room, 0, long);
+    show::put(b':');
+    match word >> 63 {
+        0 => length(word, lent),
+        _ => refused(word, lent),
+    }
+}
+
+fn reported(words: &[u8], set: &[u8]) {
+    let long = up_to(words, 2, 65536);
+    let mut lent = room::large();
+    let word = burnishpeg_report(set, &mut lent[0..long]);
+    text_answer(word, &lent, long);
 }
 
 // ---- run FILE SOURCE DESTINATION FAILURE, and then TABLES TRAIL or nothing: a number that is not there is more than the room
@@ -151,17 +253,40 @@ fn run_case(words: &[u8], set: &[u8]) {
     run(set, source, destination, down, which, tables, trail, true);
 }
 
+// ---- step FILE PLACE DESTINATION FAILURE TOPOLOGY TABLES ENTRY: by lent tables of so many bytes, each the same entry
+
+fn step(words: &[u8], set: &[u8]) {
+    let down = kind(words);
+    let next = after(down);
+    let topology = up_to(words, next, 255) as u8;
+    let long = up_to(words, wrapping_add_usize(next, 1), 65536);
+    let entry = up_to(words, wrapping_add_usize(next, 2), 255) as u8;
+    let tables = [entry; 65536];
+    show::stepped(burnishpeg_step(
+        set,
+        &tables[0..long],
+        up_to(words, 2, 255) as u8,
+        up_to(words, 3, 255) as u8,
+        topology,
+        down,
+        least(failed(words, down), 65535) as u16,
+    ));
+}
+
 // ---- all of them
 
 pub fn answer(words: &[u8], file: &[u8], long: usize) {
     match entry(words, long) {
-        JUDGE => show::verdict(judge(file)),
-        CHECK => show::verdict(burnishpeg_check(file)),
+        TAKE => show::verdict(take(file)),
         SWEEP => sweep::all(file),
         REPORT => report(file),
+        REPORTED => reported(words, file),
         READ => read(words, file),
+        WRITE => write(words, file),
         BUILD => build(words, file),
+        TABLES => tables(words, file),
         RUN => run_case(words, file),
+        STEP => step(words, file),
         _ => show::say(show::UNCLEAR),
     }
 }

@@ -1,5 +1,4 @@
-// The judgement, and the layout of a file, by their own crates.
-pub use judgement::judge;
+// The layout of a file, by its own crate.
 pub use layout::header;
 pub use layout::home_place;
 pub use layout::row_place;

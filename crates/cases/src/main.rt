@@ -1,15 +1,19 @@
-// Runs the cases that the file `cases` lists, and writes what each answers. What must be written stands in stdout, computed by hand
-// from document 01; the gate compares.
+// Runs the cases that the file `cases` lists, and writes what each answers. What must be written stands in stdout, made after
+// documents 01 and 02 and not by this program; the gate compares.
 //
 // A case is a line, `NAME: ENTRY FILE WORDS CHANGES`, with one space before each word. NAME is any text. FILE is a file in data/.
 // Empty lines, and lines that begin with `#`, are passed over. The entries, with the words that each takes:
 //
-//     judge FILE                              refusals 1 to 6
-//     check FILE                              the check of a set
+//     take FILE                               read into lists that are long enough, which are not shown
 //     read FILE A B WEIGHTS HOMES ROWS        into lists of these lengths, each entry 7 before; the lists after it
+//     write FILE ROOM                         the lists as they stand in the file's bytes, into a lent file as `build`
 //     build FILE CAP ROOM                     into a lent file of ROOM bytes, each 238 before; the set, or the first byte lent
+//     tables FILE ROOM                        into ROOM bytes, each 238 before; the tables, or the first byte lent
+//     reported FILE ROOM                      the report into ROOM bytes, each 238 before; its length, or the first byte lent
 //     run FILE SOURCE DESTINATION FAILURE     one packet; FAILURE is `nothing`, `link L` or `node V`
 //     run .. FAILURE TABLES TRAIL             the same in lent rooms of these lengths
+//     step FILE PLACE DESTINATION FAILURE TOPOLOGY TABLES ENTRY
+//                                             one step by lent tables of TABLES bytes, each of them ENTRY
 //     sweep FILE                              every single failure, with every source and every other destination
 //     report FILE                             the report, in lines of its own
 //

@@ -18,10 +18,18 @@ pub fn wide() -> [u16; 8192]
     [7; 8192]
 }
 
-// For a set that is built.
+// For a set that is built or written.
 // Rules out: 9,192 bytes, none past the longest file; 16,385 bytes.
 pub fn set() -> [u8; 16384]
     ensures { λ r. ⌜ 16384 ≡ length r ⌝ }
 {
     [238; 16384]
+}
+
+// For tables or a report's text.
+// Rules out: 34,816 bytes, none past the longest tables; 65,537 bytes.
+pub fn large() -> [u8; 65536]
+    ensures { λ r. ⌜ 65536 ≡ length r ⌝ }
+{
+    [238; 65536]
 }

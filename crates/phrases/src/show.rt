@@ -60,7 +60,7 @@ pub const ROWS: usize = 17;
 
 pub const ROW: usize = 18;
 
-pub const ITS_CHECK: usize = 19;
+pub const READ_BACK: usize = 19;
 
 pub const BYTE_AFTER: usize = 20;
 
@@ -73,9 +73,13 @@ pub const DOWN: usize = 23;
 
 pub const UNCLEAR: usize = 26;
 
+const MOVED: usize = 27;
+
+pub const TABLES: usize = 28;
+
 pub fn say(phrase: usize) {
     text(piece(
-        b"| under way| delivered| dropped| refused| taken\n| at| bytes\n| hops| topology| kind | trail|\n  WRONG from| to|  ends a|  ends b|  weights|  homes|  rows|  row|  its check|  the byte after it|  first lent byte|, longest|, nothing|, link|, node|: not understood: an unknown word, no such file, or more room than there is\n",
+        b"| under way| delivered| dropped| refused| taken\n| at| bytes\n| hops| topology| kind | trail|\n  WRONG from| to|  ends a|  ends b|  weights|  homes|  rows|  row|  read back|  the byte after it|  first lent byte|, longest|, nothing|, link|, node|: not understood: an unknown word, no such file, or more room than there is\n| moved|  tables",
         b'|',
         phrase,
     ));
@@ -93,7 +97,7 @@ pub fn refused(word: u64) {
 
 pub fn verdict(word: u64) {
     put(b':');
-    match word {
+    match word >> 63 {
         0 => say(TAKEN),
         _ => refused(word),
     }
@@ -174,6 +178,33 @@ fn journey(word: u64, trail: &[u8; 256]) {
 pub fn ended(word: u64, trail: &[u8; 256]) {
     match word >> 63 {
         0 => journey(word, trail),
+        _ => {
+            say(REFUSED);
+            refused(word);
+        }
+    }
+}
+
+// ---- steps
+
+// How the packet stands, 0 where it moved; then the letter of its change, its place, destination and topology, 8 bits each.
+fn standing(word: u64) {
+    match word & 255 {
+        0 => say(MOVED),
+        _ => say((word % 256) as usize),
+    }
+    say(AT);
+    next((word >> 16) & 255);
+    say(TOPOLOGY);
+    next((word >> 32) & 255);
+    say(KIND);
+    put(((word >> 8) % 256) as u8);
+    put(b'\n');
+}
+
+pub fn stepped(word: u64) {
+    match word >> 63 {
+        0 => standing(word),
         _ => {
             say(REFUSED);
             refused(word);

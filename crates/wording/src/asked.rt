@@ -6,20 +6,27 @@ use crate::number;
 use std::num::wrapping_add_usize;
 ghost use Prim.Native.Nat.{_≤_};
 
-// The letters of the words: judge, check, sweep, report, read, build and run are entries; a run's failure is nothing, link or node.
-pub const JUDGE: u64 = 0x6a75646765;
-
-pub const CHECK: u64 = 0x636865636b;
+// The letters of the words: take, sweep, report, reported, read, write, build, tables, run and step are entries; what has failed is
+// nothing, link or node.
+pub const TAKE: u64 = 0x74616b65;
 
 pub const SWEEP: u64 = 0x7377656570;
 
 pub const REPORT: u64 = 0x7265706f7274;
 
+pub const REPORTED: u64 = 0x7265706f72746564;
+
 pub const READ: u64 = 0x72656164;
+
+pub const WRITE: u64 = 0x7772697465;
 
 pub const BUILD: u64 = 0x6275696c64;
 
+pub const TABLES: u64 = 0x7461626c6573;
+
 pub const RUN: u64 = 0x72756e;
+
+pub const STEP: u64 = 0x73746570;
 
 const NOTHING: u64 = 0x6e6f7468696e67;
 
@@ -35,7 +42,7 @@ pub fn up_to(words: &[u8], i: usize, most: usize) -> usize
     least(number(words, i), most)
 }
 
-// ---- run FILE SOURCE DESTINATION FAILURE, and then TABLES TRAIL or nothing
+// ---- run FILE SOURCE DESTINATION FAILURE, and then TABLES TRAIL or nothing; step FILE PLACE DESTINATION FAILURE TOPOLOGY TABLES ENTRY
 
 // The failure as the library counts: 0 nothing, 1 a link, 2 a node; 3 is none of them.
 pub fn kind(words: &[u8]) -> u8 {
@@ -77,10 +84,12 @@ fn run_words(words: &[u8]) -> usize {
 // How many words the entry takes, its name and the file's among them. What follows are changes.
 pub fn own_words(words: &[u8]) -> usize {
     match name(words, 0) {
-        JUDGE | CHECK | SWEEP | REPORT => 2,
+        TAKE | SWEEP | REPORT => 2,
+        REPORTED | WRITE | TABLES => 3,
         BUILD => 4,
         READ => 7,
         RUN => run_words(words),
+        STEP => wrapping_add_usize(after(kind(words)), 3),
         _ => NONE,
     }
 }
@@ -89,13 +98,23 @@ fn either(words: &[u8], i: usize, j: usize) -> usize {
     number(words, i) | number(words, j)
 }
 
+// The numbers of a step after its failure.
+fn step_ranges(words: &[u8]) -> usize {
+    let next = after(kind(words));
+    let entry = wrapping_add_usize(next, 2);
+    (either(words, next, entry) << 8) | number(words, wrapping_add_usize(next, 1))
+}
+
 // Below NONE exactly where every number that the entry takes is given and fits its room: a number fits 8 bits where it is below NONE
 // after a shift by 8, and so on, and several are where their `|` is.
 fn ranges(words: &[u8]) -> usize {
     match name(words, 0) {
         BUILD => (number(words, 2) << 8) | (number(words, 3) << 2),
         READ => ((either(words, 2, 3) | number(words, 5)) << 8) | (either(words, 4, 6) << 3),
+        REPORTED | TABLES => number(words, 2),
+        WRITE => number(words, 2) << 2,
         RUN => (either(words, 2, 3) << 8) | failed(words, kind(words)),
+        STEP => (either(words, 2, 3) << 8) | failed(words, kind(words)) | step_ranges(words),
         _ => 0,
     }
 }

@@ -5,7 +5,7 @@ use crate::model::{Network, Refusal};
 
 const REFUSED: u64 = 1 << 63;
 
-/// The answer for a value or a refusal. The header does not name bits 40 to 62 of a refusal; they are taken to be 0.
+/// The answer for a value or a refusal. A refusal's bits besides bit 63, its number and its place are 0.
 pub fn answer(outcome: Result<u64, Refusal>) -> u64 {
     match outcome {
         Ok(value) => value,

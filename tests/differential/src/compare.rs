@@ -66,7 +66,7 @@ impl<'a> Comparer<'a> {
         self.calls
     }
 
-    /// What the model says of a file up to 13.
+    /// What the model says of a file for the step: 1 to 6, then 13.
     pub fn set(&mut self, file: &[u8]) -> Result<Rc<Network>, Refusal> {
         if self.last_set.0 != file {
             self.last_set = (file.to_vec(), set_of(file).map(Rc::new));
@@ -74,7 +74,7 @@ impl<'a> Comparer<'a> {
         self.last_set.1.clone()
     }
 
-    /// What the model says of a file up to 7 and 8, with the tables.
+    /// What the model says of a file where a sound set is needed, 1 to 8, then 13, with the tables.
     pub fn sound(&mut self, file: &[u8]) -> Sound {
         if self.last_sound.0 != file {
             let sound = sound_set(file).map(|net| {
@@ -104,15 +104,6 @@ impl<'a> Comparer<'a> {
         println!("  model:   {}", shown(model));
         println!("  library: {}", shown(library));
         faults.iter().for_each(|fault| println!("  lent bytes: {fault}"));
-    }
-
-    pub fn check(&mut self, file: &[u8]) -> Result<(), Refusal> {
-        let model = self.sound(file).map(|_| ());
-        let mut lent = Lent::of(file, self.salt());
-        let library = self.entries.check(lent.part());
-        let faults = [lent.fault("file", &[])];
-        self.conclude(answer(model.map(|()| 0)), library, &faults, || format!("check, file {}", hex(file)));
-        model
     }
 
     pub fn build(&mut self, graph: &[u8], cap: u8, room: usize) -> Result<Vec<u8>, Refusal> {

@@ -41,7 +41,6 @@ pub struct RunAsk {
 }
 
 pub trait Entries {
-    fn check(&self, file: &mut [u8]) -> u64;
     fn build(&self, graph: &mut [u8], cap: u8, out: &mut [u8]) -> u64;
     fn tables(&self, file: &mut [u8], tables: &mut [u8]) -> u64;
     fn step(&self, file: &mut [u8], tables: &mut [u8], ask: StepAsk) -> u64;

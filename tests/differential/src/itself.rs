@@ -8,7 +8,6 @@ use crate::model::distance::tables;
 use crate::model::file::{read, write, ListRooms, Lists};
 use crate::model::forward::{run, step, Ask, Packet};
 use crate::model::report::report;
-use crate::model::rules::check;
 
 pub struct Itself;
 
@@ -19,10 +18,6 @@ fn give(out: &mut [u8], bytes: &[u8]) -> u64 {
 }
 
 impl Entries for Itself {
-    fn check(&self, file: &mut [u8]) -> u64 {
-        answer(check(file).map(|()| 0))
-    }
-
     fn build(&self, graph: &mut [u8], cap: u8, out: &mut [u8]) -> u64 {
         answer(build(graph, cap, out.len()).map(|bytes| give(out, &bytes)))
     }

@@ -2,9 +2,8 @@
 
 use crate::entries::{Counts, Entries, LentLists, RunAsk, StepAsk};
 
-// The header's eight functions, in its order.
+// The header's seven functions, in its order.
 extern "C" {
-    fn burnishpeg_check(file: *const u8, file_len: usize) -> u64;
     fn burnishpeg_build(graph: *const u8, graph_len: usize, cap: u8, out: *mut u8, out_len: usize) -> u64;
     fn burnishpeg_tables(file: *const u8, file_len: usize, tables: *mut u8, tables_len: usize) -> u64;
     fn burnishpeg_step(
@@ -70,10 +69,6 @@ pub struct Library;
 // Safety, for every call below: each pointer and length is one slice, slices lent as `&mut` do not overlap, none is null, and
 // the header says that the functions take any bytes and any numbers and keep nothing.
 impl Entries for Library {
-    fn check(&self, file: &mut [u8]) -> u64 {
-        unsafe { burnishpeg_check(file.as_mut_ptr(), file.len()) }
-    }
-
     fn build(&self, graph: &mut [u8], cap: u8, out: &mut [u8]) -> u64 {
         unsafe { burnishpeg_build(graph.as_mut_ptr(), graph.len(), cap, out.as_mut_ptr(), out.len()) }
     }

@@ -1,6 +1,7 @@
-//! Compares the proved library with a model written from document 01, as amended by request a of document 02, alone.
+//! Compares the proved library with a model written from document 01, as amended by requests a and h of document 02, alone.
 
 mod answer;
+mod ask;
 mod compare;
 mod entries;
 mod families;
@@ -28,11 +29,19 @@ const USAGE: &str = "usage: differential short | long | seed N [itself]
   short   one seed, seconds
   long    twelve seeds, minutes
   seed N  one seed of the long run
-  itself  compares the model with itself in place of the library";
+  itself  compares the model with itself in place of the library
+usage: differential answer [room N] CALL FILE
+  prints the model's answer to one call; CALL is read | tables | report | build CAP | run SOURCE DESTINATION DOWN |
+  step PLACE DESTINATION TOPOLOGY DOWN TABLES, where TABLES is a file, and DOWN is none | link N | node N
+  room N  every lent list and buffer has N entries; without it there is ample room";
 
 fn main() {
     let arguments: Vec<String> = std::env::args().skip(1).collect();
     let mut words: Vec<&str> = arguments.iter().map(String::as_str).collect();
+    if let ["answer", ref call @ ..] = words[..] {
+        println!("{}", ask::line(call, &bytes_of).unwrap_or_else(|| wrong_usage()));
+        return;
+    }
     let itself = words.last() == Some(&"itself");
     if itself {
         words.pop();
@@ -48,6 +57,13 @@ fn main() {
     };
     let differences = compare_all(chosen(itself), plan, seeds);
     std::process::exit(if differences == 0 { 0 } else { 1 });
+}
+
+fn bytes_of(name: &str) -> Vec<u8> {
+    std::fs::read(name).unwrap_or_else(|why| {
+        eprintln!("{name}: {why}");
+        std::process::exit(2);
+    })
 }
 
 fn wrong_usage() -> ! {

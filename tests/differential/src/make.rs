@@ -2,7 +2,7 @@
 
 use crate::model::builder::keeps_rules;
 use crate::model::rules::Standing;
-use crate::model::{Network, LEAST_LINKS, MOST_LINKS};
+use crate::model::{Network, LEAST_LINKS, MOST_LINKS, MOST_NODES, MOST_TOPOLOGIES};
 use crate::random::Random;
 
 /// How weights are chosen.
@@ -173,15 +173,91 @@ pub fn far_set(random: &mut Random, n: usize, m: usize) -> Network {
     set_with(random, &graph, n, homes)
 }
 
-/// A set of n nodes whose homes were chosen without a look at the rules.
-pub fn careless_set(random: &mut Random, n: usize) -> Network {
+/// A graph of any kind: one that stays connected, one that some node cuts, or one in parts.
+pub fn any_graph(random: &mut Random, n: usize) -> Network {
     let m = some_links(random, n);
-    let graph = match random.below(3) {
+    match random.below(3) {
         0 => ringed_graph(random, n, m),
         1 => tree_graph(random, n, m),
         _ => loose_graph(random, n, m),
-    };
+    }
+}
+
+/// A set of n nodes whose homes were chosen without a look at the rules.
+pub fn careless_set(random: &mut Random, n: usize) -> Network {
+    let graph = any_graph(random, n);
     let k = random.between(1, n);
     let homes = any_homes(random, n, k);
     set_with(random, &graph, k, homes)
+}
+
+/// A set of n nodes and one topology, which is everyone's home.
+pub fn one_topology_set(random: &mut Random, n: usize) -> Network {
+    let graph = any_graph(random, n);
+    set_with(random, &graph, 1, vec![1; n])
+}
+
+/// The graph of a set.
+pub fn graph_of(set: &Network) -> Network {
+    Network { k: 0, homes: vec![], rows: vec![], ..set.clone() }
+}
+
+/// Moves nodes into a topology, in random order, until a rule breaks there. To move a node away from a topology breaks nothing
+/// there, so a set that met the rules breaks them at this topology alone.
+fn crowd(random: &mut Random, graph: &Network, homes: &mut [usize], topology: usize) {
+    for node in shuffled_nodes(random, graph.n) {
+        homes[node] = topology;
+        let isolated: Vec<bool> = homes.iter().map(|&home| home == topology).collect();
+        if !keeps_rules(graph, &isolated) {
+            return;
+        }
+    }
+}
+
+/// A set of the largest size that breaks the rules at this topology alone.
+pub fn largest_crowded_at(random: &mut Random, topology: usize) -> Network {
+    let graph = ringed_graph(random, MOST_NODES, MOST_LINKS);
+    let mut homes = fitting_homes(random, &graph, MOST_TOPOLOGIES);
+    crowd(random, &graph, &mut homes, topology);
+    set_with(random, &graph, MOST_TOPOLOGIES, homes)
+}
+
+/// A set that mostly meets the rules except at one topology or two: the first, the last or any.
+fn crowded_set(random: &mut Random, n: usize) -> Network {
+    let set = some_set(random, n);
+    let graph = graph_of(&set);
+    let mut homes = set.homes;
+    for _ in 0..random.between(1, 2) {
+        let any = random.between(1, set.k);
+        let topology = random.pick(&[1, set.k, any]);
+        crowd(random, &graph, &mut homes, topology);
+    }
+    set_with(random, &graph, set.k, homes)
+}
+
+/// A set without one of its links: its homes and rows are what they were, and the backbones that needed the link are not.
+fn set_without_link(random: &mut Random, mut set: Network) -> Network {
+    if set.m > LEAST_LINKS {
+        let link = random.below(set.m);
+        set.m -= 1;
+        set.ends.remove(link);
+        set.weights.remove(link);
+        for row in &mut set.rows {
+            row.remove(link);
+        }
+    }
+    set
+}
+
+/// A set of n nodes, right by its records, that mostly breaks the rules.
+pub fn broken_set(random: &mut Random, n: usize) -> Network {
+    match random.below(6) {
+        0 => careless_set(random, n),
+        1 => one_topology_set(random, n),
+        2 => {
+            let set = some_set(random, n);
+            set_without_link(random, set)
+        }
+        _ => crowded_set(random, n),
+    }
 }

@@ -1,10 +1,11 @@
 //! Arguments at their bounds and past them, and several reasons to refuse at once.
 
+use super::lists::damage;
 use super::Plan;
 use crate::compare::Comparer;
 use crate::entries::{RunAsk, StepAsk};
-use crate::make::{careless_set, loose_graph, ringed_graph, some_links, some_set, tree_graph};
-use crate::model::file::{file_length, file_of};
+use crate::make::{any_graph, broken_set, one_topology_set, some_set};
+use crate::model::file::{file_length, file_of, lists_needed, ListRooms, Lists};
 use crate::model::report::LONGEST_REPORT;
 use crate::model::samples::{full_four, set, triangle};
 use crate::model::{Network, MOST_NODES};
@@ -67,15 +68,13 @@ fn every_choice(comparer: &mut Comparer, file: &[u8]) {
     }
 }
 
-/// A file for the order of refusals: good, a graph alone, one that breaks the rules, or one with a byte changed.
+/// A file for the order of refusals: good, a graph alone, one that breaks the rules, or any of these with a byte changed.
 fn some_file(random: &mut Random) -> (Network, Vec<u8>) {
     let n = random.between(3, 7);
-    let m = some_links(random, n);
-    let net = match random.below(6) {
-        0 => ringed_graph(random, n, m),
-        1 => tree_graph(random, n, m),
-        2 => loose_graph(random, n, m),
-        3 => careless_set(random, n),
+    let net = match random.below(7) {
+        0 | 1 => any_graph(random, n),
+        2 | 3 => broken_set(random, n),
+        4 => one_topology_set(random, n),
         _ => some_set(random, n),
     };
     let mut file = file_of(&net);
@@ -93,6 +92,20 @@ fn some_room(random: &mut Random, needed: usize) -> usize {
         1 => 0,
         2 => random.below(needed + 1),
         _ => needed + random.below(3),
+    }
+}
+
+/// Rooms for the reader's lists: half of the time enough of all, otherwise each by chance.
+fn some_lists(random: &mut Random, needed: &ListRooms) -> ListRooms {
+    if random.once_in(2) {
+        return *needed;
+    }
+    ListRooms {
+        a: some_room(random, needed.a),
+        b: some_room(random, needed.b),
+        weights: some_room(random, needed.weights),
+        homes: some_room(random, needed.homes),
+        rows: some_room(random, needed.rows),
     }
 }
 
@@ -130,9 +143,19 @@ pub fn order(comparer: &mut Comparer, random: &mut Random, plan: &Plan) {
         let ask = StepAsk { place: source, destination, topology, failure, failed };
         let _ = comparer.step(&file, &tables, ask);
 
-        if random.once_in(8) {
+        if random.once_in(4) {
             let room = some_room(random, LONGEST_REPORT);
             comparer.report(&file, room);
         }
+
+        let rooms = some_lists(random, &lists_needed(net.n, net.m, net.k));
+        let _ = comparer.read(&file, &rooms);
+
+        let mut lists = Lists::of(&net);
+        if random.once_in(3) {
+            damage(random, &mut lists);
+        }
+        let room = some_room(random, file.len());
+        let _ = comparer.write(&lists, room);
     }
 }

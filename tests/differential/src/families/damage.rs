@@ -2,13 +2,13 @@
 
 use super::{every_entry, small_files, Plan, AMPLE_LISTS};
 use crate::compare::Comparer;
-use crate::make::{any_homes, careless_set, loose_graph, set_with, some_set};
+use crate::make::{any_homes, broken_set, careless_set, loose_graph, set_with, some_set};
 use crate::model::file::{file_length, file_of, judge};
 use crate::model::{Network, MOST_NODES};
 use crate::random::Random;
 
 /// Every position of small files: every bit flipped, and some other bytes, given to every entry; in the smallest set and graph
-/// all 256 bytes, given to the check and the reader.
+/// all 256 bytes, given to the reader.
 pub fn one_byte(comparer: &mut Comparer, random: &mut Random, plan: &Plan) {
     let files = small_files();
     for (number, file) in files.iter().enumerate() {
@@ -25,7 +25,6 @@ pub fn one_byte(comparer: &mut Comparer, random: &mut Random, plan: &Plan) {
                 for byte in 0..=255 {
                     let mut damaged = file.clone();
                     damaged[at] = byte;
-                    let _ = comparer.check(&damaged);
                     let _ = comparer.read(&damaged, &AMPLE_LISTS);
                 }
             }
@@ -33,10 +32,10 @@ pub fn one_byte(comparer: &mut Comparer, random: &mut Random, plan: &Plan) {
     }
     for _ in 0..400 * plan.rounds {
         let n = random.between(3, MOST_NODES);
-        let mut file = file_of(&some_set(random, n));
+        let net = if random.once_in(3) { broken_set(random, n) } else { some_set(random, n) };
+        let mut file = file_of(&net);
         let at = random.below(file.len());
         file[at] = if random.once_in(2) { file[at] ^ (1 << random.below(8)) } else { random.byte() };
-        let _ = comparer.check(&file);
         let _ = comparer.read(&file, &AMPLE_LISTS);
     }
 }
@@ -134,17 +133,16 @@ pub fn header_counts(comparer: &mut Comparer, random: &mut Random, _plan: &Plan)
             for k in counts_k {
                 for wmax in [0, 1, 255, 256, 65_535u16] {
                     let header = header(n, m, k, wmax);
-                    let _ = comparer.check(&header);
+                    let _ = comparer.read(&header, &AMPLE_LISTS);
                     let length = file_length(n as usize, m as usize, k as usize);
                     if length > 10_000 || (wmax > 1 && !random.once_in(4)) {
                         continue;
                     }
                     let mut file = header.to_vec();
                     file.resize(length, 0x4C);
-                    let _ = comparer.check(&file);
                     let _ = comparer.read(&file, &AMPLE_LISTS);
                     file.pop();
-                    let _ = comparer.check(&file);
+                    let _ = comparer.read(&file, &AMPLE_LISTS);
                 }
             }
         }
@@ -167,12 +165,10 @@ fn good_at_bounds(comparer: &mut Comparer, random: &mut Random, n: usize, m: usi
         let homes = if k == 0 { vec![] } else { any_homes(random, n, k) };
         let file = file_of(&set_with(random, &graph, k, homes));
         assert!(judge(&file).is_ok());
-        let _ = comparer.check(&file);
         let _ = comparer.read(&file, &AMPLE_LISTS);
         for (at, step) in [(2, 1), (2, 255), (4, 1), (4, 255), (5, 1), (5, 255), (7, 255), (3, 1)] {
             let mut damaged = file.clone();
             damaged[at] = damaged[at].wrapping_add(step);
-            let _ = comparer.check(&damaged);
             let _ = comparer.read(&damaged, &AMPLE_LISTS);
         }
     }
@@ -225,11 +221,16 @@ fn damage_byte(random: &mut Random, n: usize, file: &mut [u8]) {
     };
 }
 
-/// Several fields of a record or two, or two to four bytes anywhere, wrong at once: the order of the refusals decides.
+/// Several fields of a record or two, or two to four bytes anywhere, wrong at once, mostly in sets that break the rules as well:
+/// the order of the refusals decides.
 pub fn several(comparer: &mut Comparer, random: &mut Random, plan: &Plan) {
     for _ in 0..700 * plan.rounds {
         let n = random.between(3, 6);
-        let net = if random.once_in(2) { some_set(random, n) } else { careless_set(random, n) };
+        let net = match random.below(3) {
+            0 => some_set(random, n),
+            1 => careless_set(random, n),
+            _ => broken_set(random, n),
+        };
         let mut file = file_of(&net);
         if random.once_in(3) {
             for _ in 0..random.between(2, 4) {

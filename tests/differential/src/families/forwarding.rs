@@ -3,7 +3,7 @@
 use super::Plan;
 use crate::compare::Comparer;
 use crate::entries::{RunAsk, StepAsk};
-use crate::make::{careless_set, some_set};
+use crate::make::{broken_set, careless_set, some_set};
 use crate::model::file::file_of;
 use crate::model::forward::Stand;
 use crate::model::report::LONGEST_REPORT;
@@ -110,6 +110,29 @@ pub fn longest_trails(comparer: &mut Comparer, random: &mut Random, plan: &Plan)
     }
 }
 
+/// Tables whose every entry is a neighbour by chance, or 255 for a node that has none.
+pub fn neighbour_tables(random: &mut Random, net: &Network) -> Vec<u8> {
+    let neighbours: Vec<Vec<usize>> = (0..net.n).map(|node| net.neighbours(node)).collect();
+    let entry = |random: &mut Random, at: usize| {
+        let around = &neighbours[at / net.n % net.n];
+        if around.is_empty() {
+            255
+        } else {
+            random.pick(around) as u8
+        }
+    };
+    (0..net.tables_length()).map(|at| entry(random, at)).collect()
+}
+
+/// Packets of a set that may break the rules, walked a few steps by such tables: the step goes on where nothing else accepts.
+pub fn some_walks(comparer: &mut Comparer, random: &mut Random, net: &Network, most: usize) {
+    let file = file_of(net);
+    let tables = neighbour_tables(random, net);
+    for ask in asks(random, net, most) {
+        walk(comparer, &file, &tables, ask, 4);
+    }
+}
+
 /// One table byte changed in some way: to any byte, to another node, to the node itself, to 255.
 fn damage_table(random: &mut Random, net: &Network, tables: &mut [u8]) {
     let at = random.below(tables.len());
@@ -126,7 +149,11 @@ fn damage_table(random: &mut Random, net: &Network, tables: &mut [u8]) {
 pub fn damaged_tables(comparer: &mut Comparer, random: &mut Random, plan: &Plan) {
     for round in 0..60 * plan.rounds {
         let n = if round % 10 == 9 { random.between(9, MOST_NODES) } else { random.between(3, 7) };
-        let net = if random.once_in(3) { careless_set(random, n) } else { some_set(random, n) };
+        let net = match random.below(6) {
+            0 => careless_set(random, n),
+            1 => broken_set(random, n),
+            _ => some_set(random, n),
+        };
         let file = file_of(&net);
         let own = comparer.sound(&file).map(|sound| sound.1.clone());
         let careless = own.is_err();

@@ -5,11 +5,12 @@ mod damage;
 mod forwarding;
 mod lists;
 mod rooms;
+mod rules;
 mod sets;
 
 use crate::compare::Comparer;
 use crate::entries::{RunAsk, StepAsk};
-use crate::model::file::{file_of, ListRooms};
+use crate::model::file::{file_of, judge, ListRooms, Lists};
 use crate::model::report::LONGEST_REPORT;
 use crate::model::samples::{full_four, ring, set, triangle};
 use crate::random::Random;
@@ -53,7 +54,13 @@ pub const FAMILIES: &[Family] = &[
     Family { name: "short rooms", compare: rooms::short_rooms },
     Family { name: "round trips", compare: lists::round_trips },
     Family { name: "damaged lists", compare: lists::damaged_lists },
+    Family { name: "broken rules", compare: rules::broken_rules },
+    Family { name: "one topology", compare: rules::one_topology },
 ];
+
+/// What the longest set and tables need.
+const LONGEST_FILE: usize = 9_192;
+const LONGEST_TABLES: usize = 34_816;
 
 /// Ample for the tables of small sets, so that damage alone decides.
 const SMALL_TABLES: usize = 1_200;
@@ -72,12 +79,13 @@ fn small_files() -> Vec<Vec<u8>> {
         set(&full_four(), &[1, 1, 3, 3]),
         file_of(&triangle()),
         file_of(&ring()),
+        set(&full_four(), &[1, 1, 1, 2]),
+        set(&triangle(), &[1, 1, 1]),
     ]
 }
 
-/// Every entry that takes a file, once, with arguments that small sets accept.
+/// Every entry, once, with arguments that small sets accept; the writer where the file's records are right and so make lists.
 fn every_entry(comparer: &mut Comparer, random: &mut Random, file: &[u8]) {
-    let _ = comparer.check(file);
     let _ = comparer.build(file, random.between(1, 32) as u8, 300);
     let tables = comparer.tables(file, SMALL_TABLES).unwrap_or_else(|_| vec![1; SMALL_TABLES]);
     let place = random.below(3) as u8;
@@ -87,4 +95,7 @@ fn every_entry(comparer: &mut Comparer, random: &mut Random, file: &[u8]) {
     comparer.run(file, RunAsk { source: place, destination, failure, failed }, SMALL_TABLES, 70);
     comparer.report(file, LONGEST_REPORT);
     let _ = comparer.read(file, &AMPLE_LISTS);
+    if let Ok(net) = judge(file) {
+        let _ = comparer.write(&Lists::of(&net), LONGEST_FILE);
+    }
 }

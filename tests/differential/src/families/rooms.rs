@@ -1,11 +1,11 @@
-//! Lent room at every size around what is to be held.
+//! Lent room at every size around what is to be held; in sets that break the rules too, where 7 and 8 come before 14.
 
 use super::Plan;
 use crate::compare::Comparer;
 use crate::entries::{RunAsk, StepAsk};
-use crate::make::{ringed_graph, some_links, some_set};
+use crate::make::{broken_set, ringed_graph, some_links, some_set};
 use crate::model::builder::build;
-use crate::model::file::{file_of, lists_needed, ListRooms, Lists};
+use crate::model::file::{file_of, judge, lists_needed, ListRooms, Lists};
 use crate::model::report::{report, LONGEST_REPORT};
 use crate::model::samples::{full_four, heavy_ring, ring, set, triangle};
 use crate::model::{Network, MOST_NODES};
@@ -22,6 +22,10 @@ pub fn short_rooms(comparer: &mut Comparer, random: &mut Random, plan: &Plan) {
     for file in [set(&triangle(), &[1, 2, 3]), set(&ring(), &[1, 2, 3, 4]), set(&full_four(), &[1, 1, 2, 2])] {
         set_rooms(comparer, random, &file);
     }
+    // P10, P11 and everyone at home in one topology.
+    for file in [set(&ring(), &[1, 2, 1, 3]), set(&full_four(), &[1, 1, 1, 2]), set(&triangle(), &[1, 1, 1])] {
+        set_rooms(comparer, random, &file);
+    }
     // Each minus sign and each second digit of the report asks for its byte of room.
     let homes: Vec<usize> = (1..=16).collect();
     set_rooms(comparer, random, &set(&heavy_ring(16, 16), &homes));
@@ -30,20 +34,19 @@ pub fn short_rooms(comparer: &mut Comparer, random: &mut Random, plan: &Plan) {
     }
     for round in 0..10 * plan.rounds {
         let n = if round % 5 == 4 { random.between(9, MOST_NODES) } else { random.between(3, 8) };
-        let file = file_of(&some_set(random, n));
-        set_rooms(comparer, random, &file);
+        for net in [some_set(random, n), broken_set(random, n)] {
+            set_rooms(comparer, random, &file_of(&net));
+        }
         let m = some_links(random, n);
         let graph = ringed_graph(random, n, m);
         graph_rooms(comparer, &graph);
     }
 }
 
-/// The rooms of every entry that takes a set.
+/// The rooms of every entry that takes a set. The step is lent the set's own tables, or zeros where it breaks the rules.
 fn set_rooms(comparer: &mut Comparer, random: &mut Random, file: &[u8]) {
-    let Ok(sound) = comparer.sound(file) else {
-        return;
-    };
-    let (net, tables) = (&sound.0, &sound.1);
+    let net = &judge(file).expect("the records are right");
+    let tables = comparer.sound(file).map_or(vec![], |sound| sound.1.clone());
     let (needed, trail) = (net.tables_length(), net.trail_room());
     for room in around(needed) {
         let _ = comparer.tables(file, room);
@@ -86,15 +89,19 @@ fn graph_rooms(comparer: &mut Comparer, graph: &Network) {
     list_rooms(comparer, &file, graph);
 }
 
+/// Rooms of which one list, by its number, has another length.
+pub fn with_list(mut rooms: ListRooms, list: usize, room: usize) -> ListRooms {
+    *[&mut rooms.a, &mut rooms.b, &mut rooms.weights, &mut rooms.homes, &mut rooms.rows][list] = room;
+    rooms
+}
+
 /// Each list of the reader around its bound while the others have enough, and the writer's room.
 fn list_rooms(comparer: &mut Comparer, file: &[u8], net: &Network) {
     let exact = lists_needed(net.n, net.m, net.k);
     for list in 0..5 {
         let bound = [exact.a, exact.b, exact.weights, exact.homes, exact.rows][list];
         for room in around(bound) {
-            let mut rooms: ListRooms = exact;
-            *[&mut rooms.a, &mut rooms.b, &mut rooms.weights, &mut rooms.homes, &mut rooms.rows][list] = room;
-            let _ = comparer.read(file, &rooms);
+            let _ = comparer.read(file, &with_list(exact, list, room));
         }
     }
     for room in around(file.len()) {

@@ -1,29 +1,28 @@
 //! Sets and graphs as they should be, or wrong only by the rules for backup topologies.
 
-use super::{every_entry, forwarding, Plan, AMPLE_LISTS};
+use super::rules::every_sort;
+use super::{every_entry, forwarding, Plan, AMPLE_LISTS, LONGEST_FILE, LONGEST_TABLES};
 use crate::compare::Comparer;
 use crate::make::{
-    careless_set, far_set, fitting_homes, loose_graph, most_links, ringed_graph, set_with, some_links, some_set,
-    tree_graph,
+    careless_set, far_set, fitting_homes, graph_of, largest_crowded_at, loose_graph, most_links, ringed_graph,
+    set_with, some_links, some_set, tree_graph,
 };
-use crate::model::file::{file_of, Lists};
+use crate::model::file::{file_of, judge, Lists};
 use crate::model::report::LONGEST_REPORT;
 use crate::model::samples::{full_four, ring, set, triangle, two_triangles};
-use crate::model::{Network, MOST_LINKS, MOST_NODES};
+use crate::model::{Network, MOST_LINKS, MOST_NODES, MOST_TOPOLOGIES};
 use crate::random::Random;
 
-/// What the longest set and tables need.
-const LONGEST_FILE: usize = 9_192;
-const LONGEST_TABLES: usize = 34_816;
-
-/// Check, tables, report, reading and writing back of one file.
+/// Reading, tables, report, writing of one file, and its refusal by the builder. A set that breaks the rules is written from the
+/// lists that its records make.
 fn whole(comparer: &mut Comparer, file: &[u8]) {
-    let _ = comparer.check(file);
+    let _ = comparer.read(file, &AMPLE_LISTS);
     let _ = comparer.tables(file, LONGEST_TABLES);
     comparer.report(file, LONGEST_REPORT);
-    if let Ok(net) = comparer.read(file, &AMPLE_LISTS) {
+    if let Ok(net) = judge(file) {
         let _ = comparer.write(&Lists::of(&net), LONGEST_FILE);
     }
+    let _ = comparer.build(file, 32, LONGEST_FILE);
 }
 
 /// P1 to P12, the unmarked examples and the triangle's report.
@@ -41,6 +40,11 @@ pub fn examples(comparer: &mut Comparer, random: &mut Random, plan: &Plan) {
     for file in sets {
         whole(comparer, &file);
         forwarding::every_run(comparer, random, &file, plan.run_work);
+        let net = judge(&file).expect("the examples' records are right");
+        every_sort(comparer, random, &net);
+    }
+    for graph in [triangle(), ring(), full_four(), two_triangles()] {
+        every_sort(comparer, random, &graph);
     }
     let mut file = file_of(&triangle());
     for weight in [0, 3, 4] {
@@ -86,6 +90,9 @@ pub fn careless_sets(comparer: &mut Comparer, random: &mut Random, plan: &Plan) 
         let n = if round % 4 == 0 { random.between(3, MOST_NODES) } else { random.between(3, 9) };
         let net = if random.once_in(2) { careless_set(random, n) } else { one_node_moved(random, n) };
         whole(comparer, &file_of(&net));
+        if random.once_in(6) {
+            every_sort(comparer, random, &net);
+        }
     }
 }
 
@@ -94,7 +101,7 @@ fn one_node_moved(random: &mut Random, n: usize) -> Network {
     let set = some_set(random, n);
     let mut homes = set.homes.clone();
     homes[random.below(n)] = random.between(1, set.k);
-    let graph = Network { k: 0, homes: vec![], rows: vec![], ..set };
+    let graph = graph_of(&set);
     set_with(random, &graph, set.k, homes)
 }
 
@@ -166,4 +173,9 @@ pub fn largest(comparer: &mut Comparer, random: &mut Random, plan: &Plan) {
     // Extra of two digits below zero at the largest size.
     let far = far_set(random, MOST_NODES, MOST_LINKS);
     whole(comparer, &file_of(&far));
+    // 7 or 8 at each of 32 topologies, with nothing wrong before it.
+    for topology in 1..=MOST_TOPOLOGIES {
+        let set = largest_crowded_at(random, topology);
+        whole(comparer, &file_of(&set));
+    }
 }

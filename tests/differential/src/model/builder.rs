@@ -1,12 +1,15 @@
 //! The builder: first fit of the nodes, in number order, into topologies counted from 1.
 
-use super::file::{file_of, judge};
+use super::file::{file_of, take_in};
 use super::rules::{connected, two_links_each, Standing};
 use super::{Network, Refusal, MOST_CAP};
 
-/// From a graph's file to a set's file: 1 to 6, 13, 11, 9, 10, 14.
+/// From a graph's file to a set's file: 1 to 8, 13, 11, 9, 10, 14.
+///
+/// Reading: the builder takes its input in like every other caller, so a set that breaks the rules is 7 or 8 here, and only one
+/// that meets them is "a set given to the builder".
 pub fn build(graph: &[u8], cap: u8, room: usize) -> Result<Vec<u8>, Refusal> {
-    let net = judge(graph)?;
+    let net = take_in(graph)?;
     if net.k > 0 {
         return Err((13, 0));
     }

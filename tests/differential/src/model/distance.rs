@@ -101,7 +101,7 @@ pub fn tables_of(net: &Network) -> Vec<u8> {
     bytes
 }
 
-/// The tables of a set's file: 1 to 6, 13, 7 and 8, 14.
+/// The tables of a set's file: 1 to 8, 13, 14.
 pub fn tables(file: &[u8], room: usize) -> Result<Vec<u8>, Refusal> {
     let net = sound_set(file)?;
     if room < net.tables_length() {

@@ -1,6 +1,6 @@
-//! The house file: its judgement by refusals 1 to 6, its reader and its writer.
+//! The house file: its judgement by refusals 1 to 6, the one operation that takes it in, its reader and its writer.
 
-use super::rules::Standing;
+use super::rules::{judge_topologies, Standing};
 use super::{Network, Refusal};
 use super::{LEAST_LINKS, LEAST_NODES, MOST_LINKS, MOST_NODES, MOST_TOPOLOGIES};
 
@@ -52,7 +52,7 @@ fn judge_mark(file: &[u8], at: usize, mark: [u8; 2]) -> Result<(), Refusal> {
     }
 }
 
-/// The judgement of a file in 01's order: under 8 bytes, header mark, counts, length, then each record in turn.
+/// The judgement of a file's records in 01's order: under 8 bytes, header mark, counts, length, then each record in turn.
 pub fn judge(file: &[u8]) -> Result<Network, Refusal> {
     if file.len() < NETWORK_LENGTH {
         return Err((1, 0));
@@ -131,6 +131,16 @@ fn judge_row(file: &[u8], at: usize, topology: usize, net: &mut Network) -> Resu
     Ok(())
 }
 
+/// 02, request h: "one operation takes bytes and gives either an accepted set or a refusal from 1 to 8 in 01's order".
+///
+/// Reading: 01's order puts 7 and 8 behind "each record in turn", so a wrong record comes before them even where it is the row
+/// of a later topology. "A graph alone is still taken in, with no topology to check", so it may be in several parts.
+pub fn take_in(file: &[u8]) -> Result<Network, Refusal> {
+    let taken = judge(file)?;
+    judge_topologies(&taken)?;
+    Ok(taken)
+}
+
 /// The lengths of the five lists that the reader is lent.
 #[derive(Clone, Copy, Debug)]
 pub struct ListRooms {
@@ -157,9 +167,12 @@ fn shorter(rooms: &ListRooms, needed: &ListRooms) -> bool {
         || rooms.rows < needed.rows
 }
 
-/// The reader: 1 to 6, then 14.
+/// The reader, which takes a file in into lent lists: 1 to 8, then 14.
+///
+/// Reading: in 01's order 14 comes after 7 and 8, and request h moves 13 alone. So lists that are too short for a set that breaks
+/// the rules are not 14.
 pub fn read(file: &[u8], rooms: &ListRooms) -> Result<Network, Refusal> {
-    let net = judge(file)?;
+    let net = take_in(file)?;
     if shorter(rooms, &lists_needed(net.n, net.m, net.k)) {
         return Err((14, 0));
     }
@@ -197,10 +210,11 @@ impl Lists {
     }
 }
 
-/// The writer: the number and place the reader would give for what it would write, then 14.
+/// The writer: the number and place the reader would give for what it would write, 7 and 8 among them, then 14.
 ///
 /// Reading: a list shorter than the counts need stands where the reader judges the length, after the counts (3) and before
-/// every record, because without it there is nothing that could be written.
+/// every record, because without it there is nothing that could be written. The rules too are judged by what would be written:
+/// a link past the counts joins nothing, and a home past them isolates nobody.
 pub fn write(lists: &Lists, room: usize) -> Result<Vec<u8>, Refusal> {
     let (n, m, k) = (lists.n as usize, lists.m as usize, lists.k as usize);
     judge_counts(n, m, k, lists.wmax)?;
@@ -215,7 +229,7 @@ pub fn write(lists: &Lists, room: usize) -> Result<Vec<u8>, Refusal> {
         return Err((1, 0));
     }
     let file = written(lists);
-    judge(&file)?;
+    take_in(&file)?;
     if room < file.len() {
         return Err((14, 0));
     }

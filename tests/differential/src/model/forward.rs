@@ -153,14 +153,14 @@ pub struct Ask {
     pub trail_room: usize,
 }
 
-/// The full run: 1 to 6, 13, 7 and 8, 11, 12, 14.
+/// The full run: 1 to 8, 13, 11, 12, 14.
 pub fn run(file: &[u8], ask: &Ask) -> Result<Run, Refusal> {
     let net = sound_set(file)?;
     let tables = tables_of(&net);
     run_in(&net, &tables, ask)
 }
 
-/// The run after 7 and 8, for a set that meets the rules and its own tables.
+/// The run after 13, for a set that meets the rules and its own tables.
 pub fn run_in(net: &Network, tables: &[u8], ask: &Ask) -> Result<Run, Refusal> {
     if ask.source >= net.n || ask.destination >= net.n {
         return Err((11, 0));

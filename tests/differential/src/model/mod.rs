@@ -1,5 +1,5 @@
-//! Document 01, as amended by request a of document 02, in plain Rust: an implementation made from their text alone, for
-//! comparison with the proved library.
+//! Document 01, as amended by requests a and h of document 02, in plain Rust: an implementation made from their text alone,
+//! for comparison with the proved library.
 //!
 //! Nothing here is fast or clever. Every entry is a pure function: it takes what the caller lends (room only as a length) and
 //! returns either the values and bytes that the entry gives, or the refusal. Where the documents leave a point open, a comment
@@ -19,6 +19,8 @@ mod examples;
 mod extra;
 #[cfg(test)]
 mod refusals;
+#[cfg(test)]
+mod taking_in;
 
 /// A refusal: its number in 01's table, and its place.
 pub type Refusal = (u8, u32);

@@ -1,10 +1,11 @@
-//! Each refusal's place and 01's order of refusals, and the laws that an accepted run must keep.
+//! Each refusal's place and 01's order of refusals where request h leaves it as it was, and the laws that an accepted run must
+//! keep.
 
 use super::builder::build;
 use super::distance::{tables, tables_of};
 use super::file::{file_length, file_of, judge, read, write, ListRooms, Lists};
 use super::forward::{run, step, Ask, Failure, Packet, Stand};
-use super::rules::{check, sound_set};
+use super::rules::sound_set;
 use super::samples::{full_four, graph, ring, set, triangle};
 use super::Refusal;
 
@@ -57,17 +58,6 @@ fn the_builder_refuses_in_order() {
     assert_eq!(build(&file, 4, needed).map(|file| file.len()), Ok(needed));
     let apart = graph(4, 1, &[(0, 1, 1), (0, 2, 1), (1, 2, 1)]);
     assert_eq!(build(&file_of(&apart), 1, 0), Err((9, 0)));
-}
-
-#[test]
-fn the_check_goes_by_topology() {
-    assert_eq!(check(&file_of(&ring())), Err((13, 0)));
-    // All at one home: the backbone is empty.
-    assert_eq!(check(&set(&triangle(), &[1, 1, 1])), Err((7, 1)));
-    // 8 in topology 1 comes before 7 in topology 2.
-    assert_eq!(check(&set(&ring(), &[1, 1, 2, 3])), Err((8, 1)));
-    // A topology that is nobody's home is allowed.
-    assert_eq!(check(&set(&ring(), &[1, 2, 4, 3])), Ok(()));
 }
 
 #[test]

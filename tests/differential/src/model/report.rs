@@ -19,7 +19,7 @@ const LONGEST_LINE: usize = 6 * 2 + 3 + 1 + 7 + 1;
 /// report is quite so long, since not all its numbers have two digits.
 pub const LONGEST_REPORT: usize = FIRST_LINE.len() + MOST_NODES * (MOST_NODES - 1) * LONGEST_LINE + LONGEST_LAST_LINE;
 
-/// The report's text: 1 to 6, 13, 7 and 8, 14.
+/// The report's text: 1 to 8, 13, 14.
 ///
 /// Reading: every line, the last too, ends with a line feed. Room is too short where it is under this report's length
 /// ("exactly where a lent list or buffer is under what it is to hold").

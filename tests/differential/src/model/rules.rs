@@ -1,6 +1,6 @@
-//! The rules for a backup topology, and the check of a set.
+//! The rules for a backup topology, and what a file must be for an entry that needs a set.
 
-use super::file::judge;
+use super::file::{judge, take_in};
 use super::{Network, Refusal};
 
 /// How a link stands in a topology.
@@ -66,32 +66,39 @@ pub fn two_links_each(net: &Network, backbone: &[bool]) -> bool {
     (0..net.n).all(|node| backbone[node] || restricted[node] >= 2)
 }
 
-/// A set where a set is needed: 1 to 6, then 13.
-pub fn set_of(file: &[u8]) -> Result<Network, Refusal> {
-    let net = judge(file)?;
+/// The rules of every backup topology: for topologies 1 to k, 7 before 8. A graph alone has no topology to check.
+pub fn judge_topologies(net: &Network) -> Result<(), Refusal> {
+    for topology in 1..=net.k {
+        let backbone = net.backbone(topology);
+        // The links inside the backbone are exactly the normal ones.
+        if !connected(net, &backbone) {
+            return Err((7, topology as u32));
+        }
+        if !two_links_each(net, &backbone) {
+            return Err((8, topology as u32));
+        }
+    }
+    Ok(())
+}
+
+/// 13 where a graph alone stands for a set.
+fn needs_set(net: Network) -> Result<Network, Refusal> {
     if net.k == 0 {
         return Err((13, 0));
     }
     Ok(net)
 }
 
-/// A set that meets the rules: 1 to 6, 13, then for topologies 1 to k, 7 before 8.
+/// A set that meets the rules, for tables, run and report: 1 to 8, then 13. 02, request h: "13 now comes after them instead of
+/// before".
 pub fn sound_set(file: &[u8]) -> Result<Network, Refusal> {
-    let net = set_of(file)?;
-    for topology in 1..=net.k {
-        let backbone = net.backbone(topology);
-        // The links inside the backbone are exactly the normal ones.
-        if !connected(&net, &backbone) {
-            return Err((7, topology as u32));
-        }
-        if !two_links_each(&net, &backbone) {
-            return Err((8, topology as u32));
-        }
-    }
-    Ok(net)
+    needs_set(take_in(file)?)
 }
 
-/// The check of a set.
-pub fn check(file: &[u8]) -> Result<(), Refusal> {
-    sound_set(file).map(|_| ())
+/// A set that may break the rules, for the single step: 1 to 6, then 13.
+///
+/// Reading: 01 says that "the single step doesn't repeat 7 and 8", and request h amends "builder, tables, run, report and
+/// import" alone. So the step still takes a set that nothing else takes.
+pub fn set_of(file: &[u8]) -> Result<Network, Refusal> {
+    needs_set(judge(file)?)
 }
