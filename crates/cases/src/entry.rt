@@ -121,7 +121,14 @@ fn built(file: &[u8], long: usize) {
     let first = file::home_place(net, 0) + 3;
     show::next(long as u64);
     show::say(show::BYTES);
-    show::numbers(show::HOMES, file, first, Network::HOME, 255, net.n as usize);
+    show::numbers(
+        show::HOMES,
+        file,
+        first,
+        Network::HOME,
+        255,
+        net.home_records(),
+    );
     rows(file, net);
     show::say(show::READ_BACK);
     show::verdict(take(part(file, 0, long)));
