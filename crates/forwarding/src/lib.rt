@@ -118,7 +118,7 @@ fn run_in(
 
 // A packet's run from a source to its destination, with something down or nothing.
 // Rules out: delivered, where the packet was dropped `travel/delivery_claimed_for_a_drop`; a trail that does not begin with the
-// source `travel/the_trail_without_its_source`; also `seven_and_eight_left_out`.
+// source `travel/the_trail_without_its_source`; also `taking_in_left_out_of_the_run`.
 pub fn run(
     file: &[u8],
     source: u8,

@@ -41,7 +41,7 @@ pub fn neighbour_words(file: &[u8], m: u16) -> [u32; Network::MOST_NODES]
 }
 
 // Every topology's isolated nodes, in one pass over the homes: each node is entered in the word of its home, topology 1's first.
-// Rules out: a node in the word of the topology after its home; the last node in no word.
+// Rules out: topologies in the words of the nodes `node_and_topology_exchanged`; the last node in no word.
 pub fn isolated_words(file: &[u8], net: Network) -> [u32; Network::MOST_TOPOLOGIES]
     requires { ⌜ Homes (now file) net ⌝ }
     ensures { λ r. ⌜ r ≡ isolatedWords (now (file .entry)) net (homeRecords net) ⌝ }

@@ -21,7 +21,7 @@ fn tables_verdict(file: &[u8], room: usize) -> Verdict
 }
 
 // The tables of a set's file.
-// Rules out: 14 for a set that is itself refused `room_before_the_check`; 14 because there is more room than the tables need
+// Rules out: 14 for a set that is itself refused `room_before_taking_in`; 14 because there is more room than the tables need
 // `too_much_room_refused`; also `words/tie_by_leading_zeros`, `alternates/alternate_may_be_v`, `routes/one_pass_too_few`,
 // `routes/isolated_link_usable`.
 pub fn tables(file: &[u8], out: &mut [u8]) -> LengthAnswer

@@ -62,11 +62,11 @@ pub ruleset own-room = (room-held, part-counted, part-is)
 
 -- ---- a laid file
 
-module _ (s before : List ℕ) (long wanted : ℕ) (u w v : Verdict) (eu : u ≡ takeIn s) (ew : w ≡ refuse (need (leb (length s) (length before)) 14 0) 0) (ev : v ≡ andThen u w) where
-  verdict-is : v ≡ laidVerdict s (length before)
-  unfolding laidVerdict
-  verdict-is = ev ∙ rw (eu, ew)
+pub laid-verdict-is : (s : List ℕ) (long room : ℕ) (u w v : Verdict) → u ≡ takeIn s → long ≡ length s → w ≡ refuse (need (leb long room) 14 0) 0 → v ≡ andThen u w → v ≡ laidVerdict s room
+unfolding laidVerdict
+laid-verdict-is s long room u w v eu el ew ev = ev ∙ rw (eu, ew, el)
 
+module _ (s before : List ℕ) (v : Verdict) (verdict-is : v ≡ laidVerdict s (length before)) where
   -- an accepted one has room
   pub copy-fits : v ≡ Accepted → length s ≤ length before
   unfolding laidVerdict

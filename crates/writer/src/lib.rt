@@ -19,7 +19,7 @@ ghost use Rattle.rules.specs.File.{encode};
 ghost use Rattle.rules.specs.Entries.Entry.{Promise};
 ghost use Rattle.rules.specs.Entries.Lists.{lists};
 ghost use Rattle.rules.specs.Entries.Write.{setWith, writeEntry};
-ghost use Rattle.writer.specs.Parts.{givenVerdict, Copied};
+ghost use Rattle.writer.specs.Parts.{givenVerdict, laidVerdict, Copied};
 
 // What is asked before anything is laid: counts within their limits (3), lists that are long enough (1).
 fn given(net: Network, a: usize, b: usize, weights: usize, homes: usize, rows: usize) -> Verdict
@@ -30,13 +30,20 @@ fn given(net: Network, a: usize, b: usize, weights: usize, homes: usize, rows: u
     then(counts, long)
 }
 
-// A file that is laid: taken in, and copied where there is room.
+// A file that is laid taken in, and then the room for it.
+fn laid_verdict(laid: &[u8], room: usize) -> Verdict
+    ensures { λ r. ⌜ r ≡ laidVerdict (now (laid .entry)) room ⌝ }
+{
+    let taken = take_in(laid);
+    let long = need_room(laid.len(), room);
+    then(taken, long)
+}
+
+// A file that is laid: copied where it is taken in and there is room.
 fn copied(laid: &[u8], file: &mut [u8]) -> LengthAnswer
     ensures { λ r. ⌜ Copied (now (laid .entry)) (now (file .entry)) r (now (file .exit)) ⌝ }
 {
-    let room = need_room(laid.len(), file.len());
-    let taken = take_in(laid);
-    let v = then(taken, room);
+    let v = laid_verdict(laid, file.len());
     match v {
         Verdict::Accepted => LengthAnswer::Length(bytes::copy(laid, file)),
         Verdict::Refused { number, place } => LengthAnswer::Refused { number, place },
@@ -81,7 +88,7 @@ fn in_own_room(
 
 // Writes the file of these lists into lent room.
 // Rules out: 14 for a set that breaks a rule too, which is told first `room_before_records`; 14 for a list that is too short,
-// which is 1 `short_list_is_fourteen`; a set stored that breaks 8 `rules/the_writer_stores_what_breaks_eight`; also
+// which is 1 `short_list_is_fourteen`; a set stored that breaks 8 `what_breaks_a_rule_stored`; also
 // `judgement/every_home_judged_by_the_first`, `judgement/place_of_an_earlier_record`, `laying/every_row_at_the_first_place`.
 pub fn write(
     net: Network,

@@ -1,16 +1,10 @@
-use Rattle.writer.proofs.Verdicts.{copying}
 use borrow.Author.Needs.{needs}
+use Rattle.writer.proofs.Verdicts.{copying}
 use Rattle.writer.proofs.copied.Statement.{statement}
 use Rattle.writer.proofs.copied.Tie as tie
 
-need-room-requires : tie.Need-need-room-requires
-need-room-requires c κs = search needs
-
-take-in-requires : tie.Need-take-in-requires
-take-in-requires c κs = search needs
-
-then-requires : tie.Need-then-requires
-then-requires c κs = search needs
+laid-verdict-requires : tie.Need-laid-verdict-requires
+laid-verdict-requires c κs = search needs
 
 enum-told : tie.Need-enum-told
 enum-told c = search needs
@@ -34,9 +28,7 @@ pub copied-spec : {M : Type 1} → statement M
 copied-spec =
     tie.close
     (tie.spec
-    need-room-requires
-    take-in-requires
-    then-requires
+    laid-verdict-requires
     enum-told
     copy-requires
     enum-known-v
