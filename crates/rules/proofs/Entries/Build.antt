@@ -7,18 +7,18 @@ use Prim.Native.Nat.{ℕ, _≤_}
 use native.Mathlib.Omega.{arith}
 use lib.ListN.{length}
 use Rattle.rules.specs.declared.Network.{Network}
-use Rattle.rules.specs.declared.Verdict.the-variants.{Accepted}
+use Rattle.rules.specs.declared.Verdict.the-variants.{Accepted, Refused}
 use Rattle.rules.specs.declared.LengthAnswer.the-variants as long
 use Rattle.rules.specs.Basics.{laid}
 use Rattle.rules.specs.Limits.{fileLength}
 use Rattle.rules.specs.File.{Set, encode, headerOf, setOf}
 use Rattle.rules.specs.Building.{fits, built, buildNumber}
-use Rattle.rules.specs.Judgement.{judge, needFit, needRoom}
+use Rattle.rules.specs.Judgement.{judge, takeIn, needFit, needRoom}
 use Rattle.rules.specs.Entries.Build.{BuildInput, builtFrom, buildEntry}
 use Rattle.rules.specs.Sets.{Bytes, MeetsRules}
 use Rattle.rules.specs.Demands.Form.{AcceptsExactly, ThenGives, IsLength, Front}
 use Rattle.rules.specs.Demands.Building.{Removable, topologiesNeeded, withTopologies, BuildMeets, BuildGives, BuildAnswers}
-use Rattle.rules.proofs.Ground.Choices.{refuse-ok, refuse-zero, then-ok, then-first, then-second}
+use Rattle.rules.proofs.Ground.Choices.{refuse-ok, refuse-zero, then-ok, then-no, then-first, then-second}
 use Rattle.rules.proofs.File.Accepted.{judged}
 use Rattle.rules.proofs.File.FileOf.{file-judged, file-set, judged-file}
 use Rattle.rules.proofs.File.TakenIn.{taken-file, graph-taken}
@@ -28,6 +28,11 @@ use Rattle.rules.proofs.Building.BuiltBy.{built-by, built-topologies, b
 use Rattle.rules.proofs.Building.BuildNumber.{fits-needs, zero-exactly}
 use Rattle.rules.proofs.Entries.Answering.{was-accepted, told, left, accepts, front-laid, length-values, length-is}
 use Rattle.rules.proofs.Refusals.Needs.{room-ok, room-long, graph-needed, graph-given, cap-needed, cap-given}
+
+-- what taking in refuses is told first
+pub build-stops : (i : BuildInput) (lent : List ℕ) (number place : ℕ) → takeIn (i .file) ≡ Refused number place → buildEntry .verdict i lent ≡ Refused number place
+unfolding buildEntry
+build-stops i lent number place e = then-no _ _ number place e
 
 -- ---- 9 and 10
 

@@ -3,21 +3,27 @@ use mathlib.Core.Path.{_≡_, sym, ap, subst, _∙_}
 use mathlib.Core.List.{List}
 use Prim.Native.Nat.{ℕ}
 use Rattle.rules.specs.declared.Network.{Network}
-use Rattle.rules.specs.declared.Verdict.the-variants.{Accepted}
+use Rattle.rules.specs.declared.Verdict.the-variants.{Accepted, Refused}
 use Rattle.rules.specs.declared.ReadAnswer.the-variants as read
 use Rattle.rules.specs.File.{Set, headerOf, setOf}
+use Rattle.rules.specs.Judgement.{takeIn}
 use Rattle.rules.specs.Entries.Lists.{Lists, needLists, LongLists}
 use Rattle.rules.specs.Entries.Read.{listsWith, readEntry}
 use Rattle.rules.specs.Sets.{Bytes, FileOf, PublishedFile}
 use Rattle.rules.specs.Demands.Form.{AcceptsExactly, ThenGives, IsRead}
 use Rattle.rules.specs.Demands.Two.{ReadMeets, ReadGives}
-use Rattle.rules.proofs.Ground.Choices.{then-ok, then-first, then-second}
+use Rattle.rules.proofs.Ground.Choices.{then-ok, then-no, then-first, then-second}
 use Rattle.rules.proofs.File.SetOfBytes.{net-held}
 use Rattle.rules.proofs.File.FileOf.{file-header, file-set}
 use Rattle.rules.proofs.File.Accepted.{one-set}
 use Rattle.rules.proofs.File.TakenIn.{taken-in-file, file-taken-in}
 use Rattle.rules.proofs.Entries.Answering.{told, left, accepts, front-laid, read-values, read-is}
 use Rattle.rules.proofs.Refusals.Needs.{lists-long, long-lists}
+
+-- what taking in refuses is told first
+pub read-stops : (s : List ℕ) (d : Lists) (number place : ℕ) → takeIn s ≡ Refused number place → readEntry .verdict s d ≡ Refused number place
+unfolding readEntry
+read-stops s d number place e = then-no _ _ number place e
 
 -- the file that is taken in, by the rules of the file alone
 its-file : (S : Set) (s : List ℕ) → PublishedFile S s → FileOf S s

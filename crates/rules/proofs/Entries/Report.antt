@@ -3,22 +3,28 @@ use mathlib.Core.Path.{_≡_, sym, ap, subst, _∙_}
 use mathlib.Core.List.{List}
 use Prim.Native.Nat.{ℕ}
 use lib.ListN.{length}
-use Rattle.rules.specs.declared.Verdict.the-variants.{Accepted}
+use Rattle.rules.specs.declared.Verdict.the-variants.{Accepted, Refused}
 use Rattle.rules.specs.declared.LengthAnswer.the-variants as long
 use Rattle.rules.specs.Basics.{laid}
 use Rattle.rules.specs.Limits.{longest}
 use Rattle.rules.specs.File.{Set, setOf}
-use Rattle.rules.specs.Judgement.{needRoom}
+use Rattle.rules.specs.Judgement.{takeIn, needRoom}
 use Rattle.rules.specs.Report.{reportText}
 use Rattle.rules.specs.Entries.Report.{reportEntry}
 use Rattle.rules.specs.Sets.{Bytes}
 use Rattle.rules.specs.Demands.Form.{AcceptsExactly, ThenGives, IsLength, Front}
 use Rattle.rules.specs.Demands.Detections.{ReportMeets, ReportGives, ReportFits}
-use Rattle.rules.proofs.Ground.Choices.{then-both, then-first, then-second}
+use Rattle.rules.proofs.Ground.Choices.{then-no, then-both, then-first, then-second}
+use Rattle.rules.proofs.File.TakenIn.{set-stops}
 use Rattle.rules.proofs.File.AcceptedFile.{file-taken, its-set, accepted-file}
 use Rattle.rules.proofs.Report.TextLength.{report-longest}
 use Rattle.rules.proofs.Entries.Answering.{told, left, accepts, front-laid, length-values, length-is}
 use Rattle.rules.proofs.Refusals.Needs.{room-ok, room-long}
+
+-- what taking in refuses is told first
+pub report-stops : (s lent : List ℕ) (number place : ℕ) → takeIn s ≡ Refused number place → reportEntry .verdict s lent ≡ Refused number place
+unfolding reportEntry
+report-stops s lent number place e = then-no _ _ number place (set-stops s number place e)
 
 report-meets : (S : Set) (s lent : List ℕ) → ReportMeets S s lent → reportEntry .verdict s lent ≡ Accepted
 unfolding reportEntry

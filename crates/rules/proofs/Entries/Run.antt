@@ -7,7 +7,7 @@ use lib.ListN.{take}
 use borrow.Author.Tests.{eqb-true}
 use Rattle.rules.specs.declared.Failure.{Failure}
 use Rattle.rules.specs.declared.Failure.the-variants.{Nothing, Link, Node}
-use Rattle.rules.specs.declared.Verdict.the-variants.{Accepted}
+use Rattle.rules.specs.declared.Verdict.the-variants.{Accepted, Refused}
 use Rattle.rules.specs.declared.Outcome.{Outcome}
 use Rattle.rules.specs.declared.LengthAnswer.{LengthAnswer}
 use Rattle.rules.specs.declared.RunAnswer.{RunAnswer}
@@ -17,6 +17,7 @@ use Rattle.rules.specs.Limits.{tablesLength, mostHops, trailRoom}
 use Rattle.rules.specs.File.{Set, headerOf, setOf}
 use Rattle.rules.specs.Isolation.{home}
 use Rattle.rules.specs.Distance.{tableBytes}
+use Rattle.rules.specs.Judgement.{takeIn}
 use Rattle.rules.specs.Forwarding.{faultOf, up, lentTables, packet, Run, hops, trail, run, runUnder}
 use Rattle.rules.specs.Entries.Entry.{Promise}
 use Rattle.rules.specs.Entries.Tables.{tablesEntry}
@@ -25,8 +26,9 @@ use Rattle.rules.specs.Sets.{Bytes}
 use Rattle.rules.specs.Demands.Form.{AcceptsExactly, ThenGives, IsEnded, Front}
 use Rattle.rules.specs.Demands.Delivery.{Tolerated}
 use Rattle.rules.specs.Demands.Run.{RunMeets, RunGives, DeliveredByRun}
-use Rattle.rules.proofs.Ground.Choices.{then-ok, then-first, then-second}
+use Rattle.rules.proofs.Ground.Choices.{then-ok, then-no, then-first, then-second}
 use Rattle.rules.proofs.Ground.Rows.{laid-front}
+use Rattle.rules.proofs.File.TakenIn.{set-stops}
 use Rattle.rules.proofs.File.AcceptedFile.{file-taken, its-set, accepted-file}
 use Rattle.rules.proofs.Forwarding.Runs.{starts}
 use Rattle.rules.proofs.Forwarding.Delivery.{delivery}
@@ -43,6 +45,11 @@ tolerated S (Link l) = tt
 tolerated S (Node x) = (home S x, λ v l e. ap (home S) (sym (eqb-true x v e)))
 
 -- ---- what it accepts
+
+-- what taking in refuses is told first
+pub run-stops : (i : RunInput) (d : RunLent) (number place : ℕ) → takeIn (i .file) ≡ Refused number place → runEntry .verdict i d ≡ Refused number place
+unfolding runEntry
+run-stops i d number place e = then-no _ _ number place (set-stops (i .file) number place e)
 
 own-set : (S : Set) (i : RunInput) (d : RunLent) → RunMeets S i d → setOf (i .file) ≡ S
 own-set S i d M = its-set S (i .file) (M .file)

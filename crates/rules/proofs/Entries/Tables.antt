@@ -9,7 +9,7 @@ use lib.Dec.{eqb}
 use lib.ListN.{length, getD, drop}
 use borrow.Author.Tests.{eq-eqb}
 use Rattle.rules.specs.declared.Network.{Network}
-use Rattle.rules.specs.declared.Verdict.the-variants.{Accepted}
+use Rattle.rules.specs.declared.Verdict.the-variants.{Accepted, Refused}
 use Rattle.rules.specs.declared.LengthAnswer.the-variants as long
 use Rattle.rules.specs.Basics.{laid}
 use Rattle.rules.specs.Limits.{tablesLength}
@@ -17,19 +17,25 @@ use Rattle.rules.specs.File.{Set, headerOf, setOf}
 use Rattle.rules.specs.Isolation.{neighbours, home}
 use Rattle.rules.specs.Distance.{nextHop, alternate, tableBytes}
 use Rattle.rules.specs.Forwarding.{entryPlace}
-use Rattle.rules.specs.Judgement.{needRoom}
+use Rattle.rules.specs.Judgement.{takeIn, needRoom}
 use Rattle.rules.specs.Entries.Tables.{tablesEntry}
 use Rattle.rules.specs.Sets.{Bytes}
 use Rattle.rules.specs.Demands.Form.{AcceptsExactly, ThenGives, IsLength}
 use Rattle.rules.specs.Demands.Two.{NextHopIs, AlternateIs, TablesMeet, TablesGive}
-use Rattle.rules.proofs.Ground.Choices.{if-yes, if-no, then-both, then-first, then-second}
+use Rattle.rules.proofs.Ground.Choices.{if-yes, if-no, then-no, then-both, then-first, then-second}
 use Rattle.rules.proofs.Ground.Rows.{getD-laid, laid-rest}
 use Rattle.rules.proofs.Ground.Square.{tables-long, inside, entry-at, last-at}
 use Rattle.rules.proofs.File.SetOfBytes.{net-held}
+use Rattle.rules.proofs.File.TakenIn.{set-stops}
 use Rattle.rules.proofs.File.AcceptedFile.{file-taken, its-header, its-set, accepted-file}
 use Rattle.rules.proofs.Distance.NextHops.{least-next-hops, nearest-alternates}
 use Rattle.rules.proofs.Entries.Answering.{told, left, accepts, length-values, length-is}
 use Rattle.rules.proofs.Refusals.Needs.{room-ok, room-long}
+
+-- what taking in refuses is told first
+pub tables-stops : (s lent : List ℕ) (number place : ℕ) → takeIn s ≡ Refused number place → tablesEntry .verdict s lent ≡ Refused number place
+unfolding tablesEntry
+tables-stops s lent number place e = then-no _ _ number place (set-stops s number place e)
 
 pub tables-meets : (S : Set) (s lent : List ℕ) → TablesMeet S s lent → tablesEntry .verdict s lent ≡ Accepted
 unfolding tablesEntry

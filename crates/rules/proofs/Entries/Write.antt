@@ -3,7 +3,7 @@ use mathlib.Core.Path.{_≡_, refl, sym, ap, subst, _∙_}
 use mathlib.Core.List.{List}
 use Prim.Native.Nat.{ℕ, _*_}
 use Rattle.rules.specs.declared.Network.{Network}
-use Rattle.rules.specs.declared.Verdict.the-variants.{Accepted}
+use Rattle.rules.specs.declared.Verdict.the-variants.{Accepted, Refused}
 use Rattle.rules.specs.declared.LengthAnswer.the-variants as long
 use Rattle.rules.specs.Basics.{laid}
 use Rattle.rules.specs.Limits.{needCounts, rowWeights, homeRecords, fileLength}
@@ -11,16 +11,23 @@ use Rattle.rules.specs.File.{Set, encode}
 use Rattle.rules.specs.Judgement.{takeIn}
 use Rattle.rules.specs.Entries.Lists.{Lists, LongLists}
 use Rattle.rules.specs.Entries.Write.{WriteInput, setWith, writeEntry}
-use Rattle.rules.specs.Sets.{Published}
+use Rattle.rules.specs.Sets.{WithinLimits, Published}
 use Rattle.rules.specs.Demands.Form.{AcceptsExactly, ThenGives, IsLength, Front}
 use Rattle.rules.specs.Demands.Two.{cutTo, WriteMeets, WriteGives}
-use Rattle.rules.proofs.Ground.Choices.{refuse-ok, then-both, then-first, then-second}
+use Rattle.rules.proofs.Ground.Choices.{refuse-ok, then-ok, then-no, then-both, then-first, then-second}
 use Rattle.rules.proofs.Ground.Rows.{upTo-take}
 use Rattle.rules.proofs.File.Records.{counts-on}
 use Rattle.rules.proofs.File.WithinCounts.{front, within, same-set, encode-within, set-of-encode}
 use Rattle.rules.proofs.File.TakenIn.{taken-published, encode-taken}
 use Rattle.rules.proofs.Entries.Answering.{told, left, accepts, front-laid, length-values, length-is}
 use Rattle.rules.proofs.Refusals.Needs.{lists-long, long-lists, room-ok, room-long}
+
+-- where counts and lists are in order, what taking in refuses of the file that would be written is told first
+pub write-stops : (i : WriteInput) (room : List ℕ) (number place : ℕ) → WithinLimits (i .net) → LongLists (i .net) (i .lists)
+    → takeIn (encode (setWith (i .net) (i .lists))) ≡ Refused number place → writeEntry .verdict i room ≡ Refused number place
+unfolding writeEntry
+write-stops i room number place W L e =
+    then-ok _ _ (sym (refuse-ok (needCounts (i .net) 0) 0 (counts-on (i .net) 0 W))) ∙ then-ok _ _ (long-lists 1 (i .net) (i .lists) L) ∙ then-no _ _ number place e
 
 -- a set within its counts is its lists, cut to them
 within-cut : (h : Network) (d : Lists) → LongLists h d → within (setWith h d) ≡ cutTo h d

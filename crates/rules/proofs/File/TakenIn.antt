@@ -4,12 +4,12 @@ use mathlib.Core.Path.{_≡_, sym, ap, subst, _∙_}
 use mathlib.Core.List.{List}
 use Prim.Native.Nat.{ℕ, _≤_}
 use native.Mathlib.Omega.{arith}
-use Rattle.rules.specs.declared.Verdict.the-variants.{Accepted}
+use Rattle.rules.specs.declared.Verdict.the-variants.{Accepted, Refused}
 use Rattle.rules.specs.File.{Set, encode, headerOf, setOf}
 use Rattle.rules.specs.Judgement.{judge, topologies, takeIn, needSet, takeSet}
 use Rattle.rules.specs.Sets.{Bytes, Published, PublishedFile, AcceptedSet}
 use Rattle.rules.specs.Demands.Two.{TakenInExactly, AcceptedPublished}
-use Rattle.rules.proofs.Ground.Choices.{then-ok, then-first, then-second}
+use Rattle.rules.proofs.Ground.Choices.{then-ok, then-no, then-first, then-second}
 use Rattle.rules.proofs.File.SetOfBytes.{net-held}
 use Rattle.rules.proofs.File.Accepted.{judged, encode-accepted, set-back}
 use Rattle.rules.proofs.Isolation.Sound.{topologies-sound, sound-topologies}
@@ -64,6 +64,11 @@ module _ (s : List ℕ) where
   unfolding takeSet
   accepted-taken e A =
       then-ok (takeIn s) (needSet (headerOf s)) (published-taken e (set-published (setOf s) A)) ∙ set-given (headerOf s) (rw (net-held s) at (A .topologies))
+
+  -- 13 comes after
+  pub set-stops : (number place : ℕ) → takeIn s ≡ Refused number place → takeSet s ≡ Refused number place
+  unfolding takeSet
+  set-stops number place e = then-no (takeIn s) (needSet (headerOf s)) number place e
 
 -- ---- the file of a graph or a set
 

@@ -1,17 +1,14 @@
 -- 02's request h: an entry that is given, or would write, the file of a set that breaks 7 or 8 refuses it, by the first topology that does. The step never tells
 -- 7 or 8.
 use mathlib.Core.Path.{_≡_, refl, sym, ap, subst, _∙_}
-use mathlib.Core.Bool.{true}
 use mathlib.Core.List.{List}
 use Prim.Native.Nat.{ℕ, zero, suc, _≤_}
 use native.Mathlib.Omega.{arith}
-use Rattle.rules.specs.declared.Network.{Network}
 use Rattle.rules.specs.declared.Verdict.{Verdict}
 use Rattle.rules.specs.declared.Verdict.the-variants.{Accepted, Refused}
-use Rattle.rules.specs.Limits.{needCounts}
-use Rattle.rules.specs.File.{Set, encode, headerOf, setOf}
+use Rattle.rules.specs.File.{Set, encode, setOf}
 use Rattle.rules.specs.Isolation.{connected, twoLinks, topologyNumber}
-use Rattle.rules.specs.Judgement.{refuse, judge, topologies, takeIn, needSet, takeSet}
+use Rattle.rules.specs.Judgement.{refuse, judge, topologies, takeIn}
 use Rattle.rules.specs.Answers.{accepted, refused, tell}
 use Rattle.rules.specs.Entries.Entry.{Entry, Promise}
 use Rattle.rules.specs.Entries.Read.{readEntry}
@@ -26,15 +23,18 @@ use Rattle.rules.specs.Demands.Form.{IsRead, IsLength, IsEnded}
 use Rattle.rules.specs.Demands.Two.{cutTo}
 use Rattle.rules.specs.Demands.TakingIn.{FirstBroken, RefusesBroken, WouldWrite, BrokenRefused}
 use Rattle.rules.specs.Refusals.{RecordFault, link-mark, home-mark, row-mark, link-ends, link-weight, row-weight, home-wrong, row-topology, FileFault, under, other-length, header-mark, counts, in-record, BackboneJoined, TopologyFault, backbone-apart, too-few, StepFault}
-use Rattle.rules.proofs.Ground.Choices.{false-of, refuse-no, refuse-ok, then-ok, then-no, then-first, then-second, turn-all, turn-stop}
-use Rattle.rules.proofs.File.Records.{counts-on}
+use Rattle.rules.proofs.Ground.Choices.{false-of, refuse-no, refuse-ok, then-ok, then-first, then-second, turn-all, turn-stop}
 use Rattle.rules.proofs.File.FileOf.{file-judged, file-set}
 use Rattle.rules.proofs.File.TakenIn.{taken-published, set-taken}
 use Rattle.rules.proofs.Isolation.Connected.{connected-joined, joined-connected}
 use Rattle.rules.proofs.Isolation.Sound.{two-linked, sound-number}
 use Rattle.rules.proofs.Entries.Answering.{was-accepted, read-values, length-values, run-values}
-use Rattle.rules.proofs.Entries.Write.{encode-cut}
-use Rattle.rules.proofs.Refusals.Needs.{long-lists}
+use Rattle.rules.proofs.Entries.Read.{read-stops}
+use Rattle.rules.proofs.Entries.Write.{write-stops, encode-cut}
+use Rattle.rules.proofs.Entries.Build.{build-stops}
+use Rattle.rules.proofs.Entries.Tables.{tables-stops}
+use Rattle.rules.proofs.Entries.Run.{run-stops}
+use Rattle.rules.proofs.Entries.Report.{report-stops}
 use Rattle.rules.proofs.Refusals.SevenBeforeEight.{seven-first, eight-next}
 use Rattle.rules.proofs.Refusals.Refusing.{says-so, step-refuses}
 
@@ -91,22 +91,16 @@ module _ {Input Lent Answer : Type 0} (E : Entry Input Lent Answer) (Yes : Answe
             P .answer ∙ rw (stops S i before number topology G (intake-refused S (file i) number topology (its-file S i G) B));
       }
 
--- where a set is needed, 13 comes after
-set-stops : (s : List ℕ) (number place : ℕ) → takeIn s ≡ Refused number place → takeSet s ≡ Refused number place
-unfolding takeSet
-set-stops s number place e = then-no (takeIn s) (needSet (headerOf s)) number place e
-
 -- ---- the writer
 
 write-file : (S : Set) (i : WriteInput) → WouldWrite S i → FileOf S (encode (setWith (i .net) (i .lists)))
 write-file S i W = record { rules = W .rules; bytes = ap encode (W .set) ∙ sym (encode-cut (i .net) (i .lists) (W .lists)) }
 
-write-stops : (S : Set) (i : WriteInput) (before : List ℕ) (number place : ℕ) → WouldWrite S i → takeIn (encode (setWith (i .net) (i .lists))) ≡ Refused number place
+write-refused : (S : Set) (i : WriteInput) (before : List ℕ) (number place : ℕ) → WouldWrite S i → takeIn (encode (setWith (i .net) (i .lists))) ≡ Refused number place
     → writeEntry .verdict i before ≡ Refused number place
-unfolding writeEntry cutTo
-write-stops S i before number place W e =
-    let limits : WithinLimits (i .net) = subst WithinLimits (ap (λ (T : Set). T .net) (W .set)) (W .rules .limits) in
-    then-ok _ _ (sym (refuse-ok (needCounts (i .net) 0) 0 (counts-on (i .net) 0 limits))) ∙ then-ok _ _ (long-lists 1 (i .net) (i .lists) (W .lists)) ∙ then-no _ _ number place e
+unfolding cutTo
+write-refused S i before number place W e =
+    write-stops i before number place (subst WithinLimits (ap (λ (T : Set). T .net) (W .set)) (W .rules .limits)) (W .lists) e
 
 -- ---- the step
 
@@ -141,16 +135,16 @@ pub broken-refused : BrokenRefused
 unfolding readEntry writeEntry buildEntry tablesEntry runEntry reportEntry
 broken-refused =
     record {
-      read = refuses-broken readEntry IsRead FileOf (λ s. s) read-values (λ s d e. then-first _ _ e) (λ S s d number place G e. then-no _ _ number place e) (λ S s G. G);
+      read = refuses-broken readEntry IsRead FileOf (λ s. s) read-values (λ s d e. then-first _ _ e) (λ S s d number place G. read-stops s d number place) (λ S s G. G);
       write = refuses-broken writeEntry IsLength WouldWrite (λ i. encode (setWith (i .net) (i .lists))) length-values
-          (λ i d e. then-first _ _ (then-second _ _ (then-second _ _ e))) write-stops write-file;
+          (λ i d e. then-first _ _ (then-second _ _ (then-second _ _ e))) write-refused write-file;
       build = refuses-broken buildEntry IsLength (λ S i. FileOf S (i .file)) (λ i. i .file) length-values
-          (λ i d e. then-first _ _ e) (λ S i d number place G e. then-no _ _ number place e) (λ S i G. G);
+          (λ i d e. then-first _ _ e) (λ S i d number place G. build-stops i d number place) (λ S i G. G);
       tables = refuses-broken tablesEntry IsLength FileOf (λ s. s) length-values
-          (λ s d e. set-taken s (then-first _ _ e)) (λ S s d number place G e. then-no _ _ number place (set-stops s number place e)) (λ S s G. G);
+          (λ s d e. set-taken s (then-first _ _ e)) (λ S s d number place G. tables-stops s d number place) (λ S s G. G);
       run = refuses-broken runEntry IsEnded (λ S i. FileOf S (i .file)) (λ i. i .file) run-values
-          (λ i d e. set-taken (i .file) (then-first _ _ e)) (λ S i d number place G e. then-no _ _ number place (set-stops (i .file) number place e)) (λ S i G. G);
+          (λ i d e. set-taken (i .file) (then-first _ _ e)) (λ S i d number place G. run-stops i d number place) (λ S i G. G);
       report = refuses-broken reportEntry IsLength FileOf (λ s. s) length-values
-          (λ s d e. set-taken s (then-first _ _ e)) (λ S s d number place G e. then-no _ _ number place (set-stops s number place e)) (λ S s G. G);
+          (λ s d e. set-taken s (then-first _ _ e)) (λ S s d number place G. report-stops s d number place) (λ S s G. G);
       step = λ i before after r number place P e. step-other i number place (says-so stepEntry (λ i d. StepFault i) step-refuses i before after r number place P e);
     }
