@@ -79,10 +79,8 @@ fn in_turn(net: Network, nb: &[u32], isos: &[u32]) -> Verdict
         let i = j + 1;
         let number = topology_number(nb, net.n, isolated_in(isos, i));
         if number != 0 {
-            return Verdict::Refused {
-                number,
-                place: i as usize,
-            };
+            let place = i as usize;
+            return Verdict::Refused { number, place };
         }
         j += 1;
     }

@@ -25,8 +25,8 @@ isolated-in-requires c κs = search needs
 topology-number-requires : tie.Need-topology-number-requires Inv-loop μ-loop
 topology-number-requires c κs = (search needs, search needs)
 
-cast-t9 : tie.Need-cast-t9 Inv-loop μ-loop
-cast-t9 c = search needs
+cast-place : tie.Need-cast-place Inv-loop μ-loop
+cast-place c = search needs
 
 returns : tie.Need-returns Inv-loop μ-loop
 returns c = search turns
@@ -53,7 +53,7 @@ in-turn-spec =
     add-i
     isolated-in-requires
     topology-number-requires
-    cast-t9
+    cast-place
     returns
     add-j
     loop-less
