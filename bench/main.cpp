@@ -172,9 +172,8 @@ static size_t one_pass(const Set &s, uint8_t *) {
 static void without_peers() {
     const vector<Set> largest{make_set(set_sizes[0], 0)};
     const vector<Way> ways{{"one pass over the bytes with a multiply each, for comparison", one_pass},
-                           {"`read`: judged, and read into lists", our_read},
-                           {"`write`: laid from lists, judged, and copied", our_write},
-                           {"`check`: judged and checked", our_check},
+                           {"`read`: taken in, into lists", our_read},
+                           {"`write`: laid from lists, taken in, and copied", our_write},
                            {"`run`, its tables among it", our_run}};
     vector<double> times = least(ways, largest, some_rounds);
     std::printf("\n### Other entries, on the longest file (n, m, k = %s: %zu bytes)\n\n| | microseconds |\n|---|---|\n", label(set_sizes[0]).c_str(),

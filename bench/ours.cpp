@@ -29,8 +29,6 @@ size_t our_write(const Set &s, uint8_t *out) {
                                      s.homes.data(), s.homes.size(), s.rows.data(), s.rows.size(), out, most_bytes));
 }
 
-size_t our_check(const Set &s, uint8_t *) { return accepted(burnishpeg_check(s.file.data(), s.file.size())); }
-
 size_t our_run(const Set &s, uint8_t *out) {
     uint8_t trail[BURNISHPEG_LONGEST_TRAIL];
     return accepted(burnishpeg_run(s.file.data(), s.file.size(), 0, s.n / 2, 0, 0, out, most_bytes, trail, sizeof trail));

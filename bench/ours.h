@@ -17,5 +17,4 @@ size_t our_build(const Set &graph, uint8_t *out);
 // Entries that have no peer. The run is from node 0 to the node half-way round, with nothing down; it leaves its tables in out.
 size_t our_read(const Set &s, uint8_t *out);
 size_t our_write(const Set &s, uint8_t *out);
-size_t our_check(const Set &s, uint8_t *out);
 size_t our_run(const Set &s, uint8_t *out);
