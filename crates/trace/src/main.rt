@@ -1,6 +1,7 @@
 // The trace: a set from standard input, and a question as arguments: what is down, a source and a destination. One line on standard
 // output for each hop of the packet, seen from the node that makes it, and a last line that says how the run ended; or the refusal.
 use console::refused;
+use intake::take_set;
 use libc::STDIN_FILENO;
 use libc::STDOUT_FILENO;
 use rules::Failure;
@@ -111,9 +112,9 @@ fn answer(file: &[u8], q: Question)
     }
 }
 
-// A file that is refused has no links to look for.
-fn judged(file: &[u8], q: Question) {
-    let v = judgement::judge(file);
+// A file that is not taken in, or that is no set's, has no links to look for.
+fn taken_in(file: &[u8], q: Question) {
+    let v = take_set(file);
     match v {
         Verdict::Accepted => answer(file, q),
         Verdict::Refused { number, place } => refused(STDOUT_FILENO, number, place),
@@ -123,7 +124,7 @@ fn judged(file: &[u8], q: Question) {
 fn read_and_answer(q: Question) {
     let mut file = rooms::file_and_one();
     let long = io::read_full(STDIN_FILENO, &mut file);
-    judged(&file[..long], q);
+    taken_in(&file[..long], q);
 }
 
 fn main() {

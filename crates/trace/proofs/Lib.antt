@@ -1,0 +1,2 @@
+-- That a set which is taken in is judged.
+pub mod Taken
