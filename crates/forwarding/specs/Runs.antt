@@ -24,7 +24,7 @@ runInput s u t f = record { file = s; source = u; destination = t; failure = f }
 abbrev pub runLent : List ℕ → List ℕ → RunLent
 runLent tables trail = record { tables = tables; trail = trail }
 
--- by the lengths of the rooms: 1 to 6, 13, 7 and 8 by topology, 11, 12, 14
+-- by the lengths of the rooms: 1 to 6, 7 and 8 by topology, 13, 11, 12, 14
 unfoldable pub runVerdict : RunInput → ℕ → ℕ → Verdict
 runVerdict i tables trail =
     andThen (takeSet (i .file))

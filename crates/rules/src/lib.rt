@@ -240,7 +240,7 @@ fn times(x: usize, y: usize) -> usize
     x * y
 }
 
-// What the judge and the check say: accepted, or refused with 01's number and place.
+// What the judge and taking in say: accepted, or refused with 01's number and place.
 pub enum Verdict {
     Accepted,
     Refused { number: u8, place: usize },
