@@ -27,7 +27,7 @@ pub write-stops : (i : WriteInput) (room : List ℕ) (number place : ℕ) → Wi
     → takeIn (encode (setWith (i .net) (i .lists))) ≡ Refused number place → writeEntry .verdict i room ≡ Refused number place
 unfolding writeEntry
 write-stops i room number place W L e =
-    then-ok _ _ (sym (refuse-ok (needCounts (i .net) 0) 0 (counts-on (i .net) 0 W))) ∙ then-ok _ _ (long-lists 1 (i .net) (i .lists) L) ∙ then-no _ _ number place e
+    then-ok _ _ (sym (refuse-ok (needCounts (i .net) 0) 0 (counts-on (i .net) 0 W))) ∙ then-ok _ _ (long-lists _ (i .net) (i .lists) L) ∙ then-no _ _ number place e
 
 -- a set within its counts is its lists, cut to them
 within-cut : (h : Network) (d : Lists) → LongLists h d → within (setWith h d) ≡ cutTo h d
