@@ -1,6 +1,8 @@
 // The alternates of the nodes whose home is one topology, by its distances: for a neighbour that has another home, the nearest to it
 // among the other neighbours that have another home, ties to the lower number. `fill` promises what specs/ says, of any links, homes
 // and distances; that this is what 01 asks of an accepted set is shown in proofs/.
+#![tactic(auto)]
+
 ghost use Rattle.std.specs.Prelude.{◌≡◌, false, ◌||◌, eqb, ◌≤◌, ◌<◌, length, get_or, replicate};
 ghost use Rattle.routes.specs.Lanes.{column};
 ghost use Rattle.alternates.specs.Alternates.{noted, noted_link, outlets_by, eligible, lesser_of, least_of, near_bit, near_word, alternate_by, Homed, RowBy, RowOf, RowAt, RowsTo};

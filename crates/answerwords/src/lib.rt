@@ -2,6 +2,8 @@
 // accepted call, each in as many bits as its range asks; and what is down, from the two numbers that C gives. Each function promises the
 // word of its answer, and from that word every answer can be read back: bit 63 is clear exactly where the call was accepted, and number,
 // place and every value are what the entry told (`EveryWord`, proved in proofs/ReadBack).
+#![tactic(auto)]
+
 ghost use Rattle.std.specs.Prelude.{◌≡◌, [], ◌∷◌, ◌<◌};
 ghost use Rattle.rules.specs.Forwarding.{letter};
 ghost use Rattle.rules.specs.Answers.{read_tells, length_tells, outcome_value, step_values, step_tells, journey_values, run_tells};

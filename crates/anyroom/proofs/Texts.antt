@@ -16,7 +16,7 @@ use Rattle.rules.specs.Answers.{accepted, tell, length_tells}
 use Rattle.rules.specs.Entries.Entry.{on_accept}
 use Rattle.rules.proofs.Ground.Rows.{prefix_long}
 use Rattle.rules.proofs.Entries.Determined.{length_one}
-use Rattle.rules.proofs.Refusals.Goals.{room_long}
+use Rattle.rules.proofs.Refusals.Needs.{room_long}
 use Rattle.anyroom.specs.Laying.{Copied}
 
 -- ---- a copy
@@ -38,14 +38,11 @@ module _ (made before : List ℕ) (n : ℕ) (w : Verdict) (h : n ≤ length made
       let same : need_room (length (take n made)) before ≡ Refused number place = room_is ∙ t in
       record { answer = rw same; lent = rw same }
 
-  pub copied_whole : (count bytes : ℕ) (after : List ℕ) → w ≡ Accepted → count ≡ length (take n made) → bytes ≡ count → after ≡ take count (take n made) ++ drop count before → Copied (take n made) before (long.Length bytes) after
+  pub copied_whole : (bytes : ℕ) (after : List ℕ) → w ≡ Accepted → bytes ≡ length (take n made) → after ≡ take n made ++ drop (length (take n made)) before → Copied (take n made) before (long.Length bytes) after
   unfolding length_tells tell on_accept laid
-  copied_whole count bytes after t ec eb ea =
+  copied_whole bytes after t eb ea =
       let same : need_room (length (take n made)) before ≡ Accepted = room_is ∙ t in
-      record {
-        answer = rw same (ap (λ (x : ℕ). accepted (x ∷ [])) (eb ∙ ec));
-        lent = rw same (ea ∙ rw ec (ap (λ (x : List ℕ). x ++ drop (length (take n made)) before) (take_all (length (take n made)) (take n made) (omega arith))));
-      }
+      record { answer = rw same (ap (λ (x : ℕ). accepted (x ∷ [])) eb); lent = rw same ea }
 
 -- the promise leaves no room: two results that it allows coincide
 pub one_laying : (bytes text after after' : List ℕ) (r r' : LengthAnswer) → Copied bytes text r after → Copied bytes text r' after' → (r ≡ r') × (after ≡ after')

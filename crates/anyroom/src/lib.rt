@@ -1,5 +1,7 @@
 // A text that was made in room of its own, laid into room of any length that is lent. `lay_text` promises the text at the front of the
 // room and its length, or 14 and the room as it came where that is too short.
+#![tactic(auto)]
+
 ghost use Rattle.std.specs.Prelude.{◌≤◌, length, take};
 ghost use Rattle.anyroom.specs.Laying.{Copied};
 
@@ -13,7 +15,7 @@ fn copied(made: &[u8], long: usize, text: &mut [u8]) -> LengthAnswer
 {
     let room = need_room(long, text.len());
     match room {
-        Verdict::Accepted => LengthAnswer::Length(bytes::copy(&made[..long], text)),
+        Verdict::Accepted => LengthAnswer::Length(slices::store::copy(&made[..long], text)),
         Verdict::Refused { number, place } => LengthAnswer::Refused { number, place },
     }
 }

@@ -2,6 +2,8 @@
 // its home (`firstfit`), and the set is filled in from these. `build` promises 01's answer for any bytes, cap and lent file:
 // refusals 1 to 6, 7 and 8 by topology, 13, 11, 9, 10 and 14, or the set's bytes at the front of the file and their length. Nothing is stored before
 // everything is accepted. 9 comes before 10; both can arise only where first fit did not place every node, so 9 is tested there alone.
+#![tactic(auto)]
+
 ghost use Rattle.std.specs.Prelude.{◌≡◌, ◌≤◌, length, replicate};
 ghost use Rattle.rules.specs.declared.Verdict.TheVariants.{Accepted};
 ghost use Rattle.rules.specs.Basics.{need};

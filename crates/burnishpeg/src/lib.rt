@@ -1,6 +1,8 @@
-// The entries for C and Rust, by numbers and byte slices (include/burnishpeg.h). Each function promises what its entry does, with
-// the answer packed into one word: a refusal's number and place, or the values of an accepted call. Buffers that one call is
-// given must not overlap: that is the one thing that C has to see to.
+// The entries by numbers and byte slices, as C and Rust call them (include/burnishpeg.h). Each function promises what its entry does,
+// with the answer packed into one word: a refusal's number and place, or the values of an accepted call. The crate `burnishpeg_c`
+// exports each under its name.
+#![tactic(auto)]
+
 ghost use Rattle.rules.specs.Entries.Lists.{lists};
 ghost use Rattle.rules.specs.Entries.Read.{read_entry};
 ghost use Rattle.rules.specs.Entries.Write.{write_entry};
@@ -18,8 +20,7 @@ use rules::{Network, Packet};
 
 // Rules out: a length that is not that of the file in `out`; a refusal with bit 63 clear
 // `answerwords/a_refusal_that_looks_accepted`; also `answerwords/the_number_over_the_place`.
-#[unsafe(no_mangle)]
-pub extern "C" fn burnishpeg_build(graph: &[u8], cap: u8, out: &mut [u8]) -> u64
+pub fn burnishpeg_build(graph: &[u8], cap: u8, out: &mut [u8]) -> u64
     ensures { Answers build_entry by_length (record { file = graph.now; cap = cap }) out.old result out.new }
 {
     length_word(builder::build(graph, cap, out))
@@ -27,8 +28,7 @@ pub extern "C" fn burnishpeg_build(graph: &[u8], cap: u8, out: &mut [u8]) -> u64
 
 // Rules out: `tables` altered by a refused call; a refusal with bit 63 clear `answerwords/a_refusal_that_looks_accepted`; also
 // `answerwords/the_number_over_the_place`.
-#[unsafe(no_mangle)]
-pub extern "C" fn burnishpeg_tables(file: &[u8], tables: &mut [u8]) -> u64
+pub fn burnishpeg_tables(file: &[u8], tables: &mut [u8]) -> u64
     ensures { Answers tables_entry by_length file.now tables.old result tables.new }
 {
     length_word(tables::tables(file, tables))
@@ -37,8 +37,7 @@ pub extern "C" fn burnishpeg_tables(file: &[u8], tables: &mut [u8]) -> u64
 // Rules out: 11 for a failed link, and kind 3 taken for one `answerwords/a_link_by_another_kind`; a refusal with bit 63 clear
 // `answerwords/a_refusal_that_looks_accepted`; also `answerwords/the_number_over_the_place`,
 // `answerwords/a_node_by_its_low_byte`.
-#[unsafe(no_mangle)]
-pub extern "C" fn burnishpeg_step(
+pub fn burnishpeg_step(
     file: &[u8],
     tables: &[u8],
     place: u8,
@@ -61,8 +60,7 @@ pub extern "C" fn burnishpeg_step(
 // Rules out: 11 for a failed link, and kind 3 taken for one `answerwords/a_link_by_another_kind`; a refusal with bit 63 clear
 // `answerwords/a_refusal_that_looks_accepted`; also `answerwords/the_number_over_the_place`,
 // `answerwords/a_node_by_its_low_byte`.
-#[unsafe(no_mangle)]
-pub extern "C" fn burnishpeg_run(
+pub fn burnishpeg_run(
     file: &[u8],
     source: u8,
     destination: u8,
@@ -79,8 +77,7 @@ pub extern "C" fn burnishpeg_run(
 
 // Rules out: n and k exchanged in the answer; a refusal with bit 63 clear `answerwords/a_refusal_that_looks_accepted`; also
 // `answerwords/the_number_over_the_place`.
-#[unsafe(no_mangle)]
-pub extern "C" fn burnishpeg_read(
+pub fn burnishpeg_read(
     file: &[u8],
     a: &mut [u8],
     b: &mut [u8],
@@ -95,8 +92,7 @@ pub extern "C" fn burnishpeg_read(
 
 // Rules out: `out` altered by a refused call; a refusal with bit 63 clear `answerwords/a_refusal_that_looks_accepted`; also
 // `answerwords/the_number_over_the_place`.
-#[unsafe(no_mangle)]
-pub extern "C" fn burnishpeg_write(
+pub fn burnishpeg_write(
     n: u8,
     m: u16,
     k: u8,
@@ -119,8 +115,7 @@ pub extern "C" fn burnishpeg_write(
 // Rules out: 14 where `text` is exactly as long as the report `needs/just_enough_room_refused`; a refusal with bit 63 clear
 // `answerwords/a_refusal_that_looks_accepted`; also `answerwords/the_number_over_the_place`, `anyroom/another_room_measured`,
 // `anyroom/more_room_than_the_text_refused`.
-#[unsafe(no_mangle)]
-pub extern "C" fn burnishpeg_report(file: &[u8], text: &mut [u8]) -> u64
+pub fn burnishpeg_report(file: &[u8], text: &mut [u8]) -> u64
     ensures { Answers report_entry by_length file.now text.old result text.new }
 {
     length_word(report::report(file, text))

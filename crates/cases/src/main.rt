@@ -23,6 +23,7 @@
 // or that asks for more room than there is.
 //
 // To add an entry: its name and its words in crates/wording/src/asked.rt, its function in entry.rt.
+#![tactic(auto)]
 mod entry; // entry.rt: what is asked of the file, one function for each entry
 mod file; // file.rt: the house file
 mod room; // room.rt: rooms that are lent

@@ -1,5 +1,6 @@
 // What the programs share: a number among the arguments, and the line of a refusal. What a text means as a number is promised whole.
 // What is read from the arguments, and what is written, no contract can say.
+#![tactic(auto)]
 mod number; // number.rt: what digits mean
 
 pub use number::{Number, number_in};

@@ -4,7 +4,7 @@ ghost use Rattle.console.specs.Numbers.{more, number_by, number_in};
 
 use slices::byte;
 
-#[derive(Drop)]
+#[derive(Clone, Copy)]
 pub enum Number {
     Given(u8),
     Unclear,

@@ -1,4 +1,5 @@
 // The report program: one file from standard input; its report, or the line of its refusal, to standard output.
+#![tactic(auto)]
 use libc::STDIN_FILENO;
 use rooms::file_and_one;
 

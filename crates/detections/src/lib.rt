@@ -2,6 +2,8 @@
 // `detect` promises all that the report's line on a node and a destination holds, of an accepted file by its own tables. The rules
 // count the hops of a run with that one link down; here the next hops of one topology are counted, which no failure has to be asked
 // about: proofs/Walks shows that a run with nothing down, and one that has changed its topology, goes just there.
+#![tactic(auto)]
+
 ghost use Rattle.std.specs.Prelude.{◌≡◌};
 ghost use Rattle.rules.specs.File.{set_of};
 ghost use Rattle.detections.specs.Detection.{Ready, Pair, Walked, seen_by};
@@ -10,7 +12,7 @@ use onehop::{detour, entry};
 use rules::{Kind, Network};
 
 // The fields of a line after its node and destination; `plain` are the hops in topology 0.
-#[derive(Drop)]
+#[derive(Clone, Copy)]
 pub struct Seen {
     pub via: u8,
     pub kind: Kind,

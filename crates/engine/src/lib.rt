@@ -1,6 +1,8 @@
 // The tables of a set: (k + 1) × n × n next hops by topology, node and destination, then n × n alternates by node and neighbour.
 // `fill_tables` promises that the lent bytes become exactly those of the definitions. Each topology's distances are made once: its next
 // hops and the alternates of the nodes whose home it is are taken while they are at hand. All room to work in is local.
+#![tactic(auto)]
+
 ghost use Rattle.std.specs.Prelude.{◌≡◌, ◌+◌, ◌*◌, ◌≤◌, ◌<◌, length};
 ghost use Rattle.rules.specs.Basics.{up_to, flat};
 ghost use Rattle.rules.specs.Limits.{tables_length};

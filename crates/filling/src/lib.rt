@@ -2,6 +2,8 @@
 // weights on the links that the homes leave normal. `put_set` promises the lent file with exactly those bytes at its front. It asks for
 // what the verdicts before it have settled: the links stand in the graph's file, their ends have homes, and the lent file has room. So
 // no byte of a row is tested again.
+#![tactic(auto)]
+
 ghost use Rattle.std.specs.Prelude.{◌≡◌, ◌+◌, ◌*◌, ◌≤◌, ◌<◌, length};
 ghost use Rattle.rules.specs.Basics.{flat};
 ghost use Rattle.rules.specs.Limits.{row_length, link_place, row_place, file_length};

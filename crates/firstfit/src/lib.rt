@@ -2,6 +2,8 @@
 // admits it, and a topology's isolated nodes are kept as a word. It promises what specs/ says, of any neighbour words: whether
 // the graph is whole without any one of its nodes (9), the home of each node and how many have one (10), and the highest
 // topology used. That this is first fit of 01 is shown in proofs/.
+#![tactic(auto)]
+
 ghost use Rattle.std.specs.Prelude.{◌≡◌, ◌-◌, ◌<◌, ◌≤◌, max, length, get_or, replicate};
 ghost use Rattle.rules.specs.Building.{highest};
 ghost use Rattle.firstfit.specs.Fit.{spared_by, all_spared, word_admits, Placed};

@@ -2,6 +2,8 @@
 // (`travel`) from a source to a destination under one failure, by the tables that it makes itself. The entries `step` and `run` take
 // every input; their promises fix the answer, every byte of the trail and every byte of the tables. A run takes in its file, 7 and 8
 // among the refusals; a step does not repeat them.
+#![tactic(auto)]
+
 ghost use Rattle.std.specs.Prelude.{◌≡◌};
 ghost use Rattle.rules.specs.File.{header_of};
 ghost use Rattle.rules.specs.Entries.Entry.{Promise};

@@ -2,6 +2,8 @@
 // rules. The records are judged (`judgement`); then each node's neighbours, and each topology's isolated nodes, are gathered from the
 // bytes as words, by which each topology's rules are judged in turn (`topologyrules`). `take_in` promises refusals 1 to 6 by record,
 // then 7 and 8 by topology, of any bytes; `take_set` the same and then 13, where a set is needed.
+#![tactic(auto)]
+
 ghost use Rattle.std.specs.Prelude.{◌≡◌, ◌≤◌};
 ghost use Rattle.rules.specs.declared.Verdict.TheVariants.{Accepted};
 ghost use Rattle.rules.specs.Limits.{home_records};

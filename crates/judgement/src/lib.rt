@@ -1,5 +1,7 @@
 // The judgement of a house file: `judge` promises the verdict of 01 on any bytes, refusals 1 to 6 in 01's order, each with its place,
 // or acceptance. Each record is judged in turn by its rule (`recordrules`), over the fields that stand at its place (`layout`).
+#![tactic(auto)]
+
 ghost use Rattle.std.specs.Prelude.{◌≡◌, ◌≤◌, ◌<◌, length};
 ghost use Rattle.rules.specs.Basics.{need, all};
 ghost use Rattle.rules.specs.Limits.{link_place, home_place, row_place, file_length};

@@ -1,6 +1,8 @@
 // The layout of the house file: where its records stand, which follows from the counts of its header; their fields, read at those
 // places, one by one from any bytes, or a link's together where its record is there; and the records, stored there (`record`).
 // Places, fields and records are promised by the definitions of 01's 'The file'. What a field may hold is the judgement's to say.
+#![tactic(auto)]
+
 pub mod record; // record.rt: the records as bytes
 
 ghost use Rattle.std.specs.Prelude.{◌≡◌, ◌+◌, ◌≤◌, ◌<◌, length};
@@ -12,7 +14,7 @@ use rules::Network;
 use slices::{byte, two, two_within, within};
 
 // A link's record: the two bytes of its mark, its ends, its weight in topology 0.
-#[derive(Drop)]
+#[derive(Clone, Copy)]
 pub struct LinkFields {
     pub x: u8,
     pub y: u8,

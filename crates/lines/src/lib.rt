@@ -1,5 +1,7 @@
 // The lines of the report, and its whole text: the header line, a line for each node and each other destination, the count of the
 // detections. `write` promises the text of the report on an accepted file, byte for byte as far as the room reaches, and its length.
+#![tactic(auto)]
+
 ghost use Rattle.std.specs.Prelude.{◌≡◌, ◌≤◌, ◌<◌, pos, ◌-ℤ◌};
 ghost use Rattle.rules.specs.File.{set_of};
 ghost use Rattle.rules.specs.Report.{signed, header_line, detection_lines, report_text};

@@ -1,5 +1,7 @@
 // Which link of a file joins two nodes, and whether the hop between them is up under a failure: each promised as the rules say it of
 // the file's set. `net` is the header of `file`, which the judge accepts where the contract says `Judged`.
+#![tactic(auto)]
+
 ghost use Rattle.std.specs.Prelude.{◌≡◌, ◌<◌, not, ◌&&◌, ◌||◌, eqb};
 ghost use Rattle.rules.specs.File.{header_of, set_of};
 ghost use Rattle.rules.specs.Isolation.{link_between, neighbours};

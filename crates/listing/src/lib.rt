@@ -1,6 +1,8 @@
 // The lists that a file holds, read into lent lists. `lists_into` promises, for any bytes and any counts, the fields of the records at
 // the front of each list; entries past the counts stay as they came. Each function here may be called where its lists are long
 // enough. What the fields may hold is the judgement's to say.
+#![tactic(auto)]
+
 ghost use Rattle.std.specs.Prelude.{◌≡◌, ◌*◌, ◌<◌, ◌≤◌, length};
 ghost use Rattle.rules.specs.Basics.{up_to, flat, laid};
 ghost use Rattle.rules.specs.Limits.{row_weights};

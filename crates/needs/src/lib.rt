@@ -1,6 +1,8 @@
 // What an entry needs beyond the rules of the file, each need once: a set or a graph (13), a packet, a failure and a cap within their
 // ranges (11), a source that is not the failed node (12), lists that are long enough (14, or 1 for the writer's) and room (14); and
 // verdicts put in order, the first that refuses. Each function promises the published verdict; an entry says which it asks, and when.
+#![tactic(auto)]
+
 ghost use Rattle.std.specs.Prelude.{◌≡◌, leb};
 ghost use Rattle.rules.specs.Basics.{need};
 ghost use Rattle.rules.specs.Judgement.{refuse, and_then, need_set, need_graph, need_failure, need_packet, need_cap, need_source};

@@ -1,5 +1,7 @@
 // The next hops of one topology. It promises what specs/ says, of any links and distances; that this is what 01 asks of an accepted set
 // is shown in proofs/. The neighbours that tie are the bits of a word, of which the lowest is taken.
+#![tactic(auto)]
+
 ghost use Rattle.std.specs.Prelude.{◌≡◌, ◌+◌, ◌*◌, ◌≤◌, ◌<◌, length, replicate};
 ghost use Rattle.rules.specs.Basics.{up_to, flat};
 ghost use Rattle.rules.specs.Distance.{far};

@@ -2,6 +2,8 @@
 // in place of a next hop that it cannot reach, and `lookup_number` 15 where an entry that this step looks up is no neighbour. `net` is
 // the header of `file`, which the judge accepts where the contract says `Judged`, and `tables` are read as they are, whatever they
 // hold. Which hops are up is `linkstate`'s to say.
+#![tactic(auto)]
+
 ghost use Rattle.std.specs.Prelude.{◌≡◌, ◌<◌, get_or};
 ghost use Rattle.rules.specs.File.{header_of, set_of};
 ghost use Rattle.rules.specs.Isolation.{neighbours, home};
@@ -44,7 +46,7 @@ pub fn entry(tables: &[u8], net: Network, i: usize, u: u8, t: u8) -> u8
 
 // Where a packet goes in place of its next hop, which it cannot reach: the neighbour taken, the topology changed to, the kind of the
 // change.
-#[derive(Drop)]
+#[derive(Clone, Copy)]
 pub struct Change {
     pub next: u8,
     pub topology: u8,

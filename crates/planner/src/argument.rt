@@ -3,13 +3,13 @@ use console::{Number, argument};
 use libc::STDERR_FILENO;
 
 // The graph's own count of nodes, or a number.
-#[derive(Drop)]
+#[derive(Clone, Copy)]
 pub enum Cap {
     Own,
     Given(u8),
 }
 
-#[derive(Drop)]
+#[derive(Clone, Copy)]
 pub enum Asked {
     Clear(Cap),
     Unclear,

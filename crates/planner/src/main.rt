@@ -1,6 +1,7 @@
 // The planner: a graph from standard input, and the set that the builder makes of it on standard output. The cap is the first
 // argument, or else the graph's own count of nodes, which always suffices. A refusal goes to standard error, and nothing to
 // standard output.
+#![tactic(auto)]
 mod argument; // argument.rt: the cap that is asked for
 
 use argument::{Asked, Cap};

@@ -1,5 +1,6 @@
 // What the report programs share: a file's report, or the line of its refusal, to standard output. It is the text that
 // `report::print` promises; that it is written, no contract can say.
+#![tactic(auto)]
 use libc::STDOUT_FILENO;
 
 // The report of a file, or the line of its refusal.

@@ -15,7 +15,7 @@ use Rattle.rules.specs.Entries.Lists.{Lists, lists, need_lists, LongLists}
 use Rattle.rules.specs.Entries.Read.{lists_with, read_entry}
 use Rattle.rules.proofs.Ground.Choices.{then_second}
 use Rattle.needs.specs.Numbers.{lists_rule, lists_verdict}
-use Rattle.rules.proofs.Refusals.Goals.{lists_long}
+use Rattle.rules.proofs.Refusals.Needs.{lists_long}
 use Rattle.listing.specs.Fields.{row_of, lists_of}
 use Rattle.reader.specs.Reading.{read_verdict}
 

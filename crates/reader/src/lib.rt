@@ -2,6 +2,8 @@
 // the header's counts with the file's fields at the front of each list, or the refusal by number and place with every list as it came:
 // 1 to 6 by record, 7 and 8 by topology, 14. Entries past the counts stay as they came. The lists are filled (`listing`) only where the
 // file is taken in (`intake`) and every list is long enough.
+#![tactic(auto)]
+
 ghost use Rattle.std.specs.Prelude.{◌≡◌};
 ghost use Rattle.rules.specs.Entries.Entry.{Promise};
 ghost use Rattle.rules.specs.Entries.Lists.{lists};

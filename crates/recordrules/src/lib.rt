@@ -1,6 +1,8 @@
 // The rules of each record of a file over the values of its fields, as refusal numbers: 0 is no refusal. Each rule is its tests one
 // after the other, in 01's order, and promises the number of the first that fails. Here a mark, a count, an end, a weight, a home and
 // a row's topology are judged, and nowhere else; which record is judged when is the judgement's.
+#![tactic(auto)]
+
 ghost use Rattle.std.specs.Prelude.{◌≡◌, ◌+◌, ◌*◌, eqb};
 ghost use Rattle.rules.specs.Basics.{need};
 ghost use Rattle.rules.specs.Limits.{need_counts};

@@ -30,7 +30,7 @@ use Rattle.rules.proofs.Entries.Determined.{tells_refused}
 use Rattle.rules.proofs.Entries.Report.{report_fits}
 use Rattle.rules.proofs.Report.TextLength.{report_fits as text_fits}
 use Rattle.rules.proofs.Entries.Values.{longest_tables}
-use Rattle.rules.proofs.Refusals.Goals.{room_ok, room_long}
+use Rattle.rules.proofs.Refusals.Needs.{room_ok, room_long}
 use Rattle.rooms.specs.Rooms.{few_tables, Room}
 use Rattle.rooms.proofs.Longest as figures
 use Rattle.anyroom.specs.Laying.{Copied}

@@ -1,6 +1,8 @@
 // The report on a set: what each router does, and how far its packets go, where the link to its next hop is down; one line for each
 // node and each other destination, so that both ends of every link stand in it. The entry `report` takes every file; its promise
 // fixes the text, byte for byte, or the refusal. `print` promises the text that the report program prints, the refusal's line too.
+#![tactic(auto)]
+
 ghost use Rattle.std.specs.Prelude.{◌≤◌};
 ghost use Rattle.rules.specs.Limits.{tables_length};
 ghost use Rattle.rules.specs.File.{header_of, set_of};

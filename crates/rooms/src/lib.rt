@@ -1,5 +1,7 @@
 // Room for the longest of each thing that a caller lends: the longest file, its tables, a run's trail, a report. Each is promised whole:
 // as many bytes as the definitions say, all 0. And room for the tables of a small set.
+#![tactic(auto)]
+
 ghost use Rattle.std.specs.Prelude.{◌+◌};
 ghost use Rattle.rules.specs.Limits.{longest};
 ghost use Rattle.rooms.specs.Rooms.{few_tables, Room};

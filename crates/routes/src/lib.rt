@@ -1,6 +1,8 @@
 // The weights and distances of one topology: the row in force, the cost of each link, and the distances of all nodes to all destinations.
 // It promises that they are those of the definitions. Distances are a matrix with a row for each node and a lane for each destination: what
 // a node gains by going through another is one step over whole rows, and once it was tried through every node, no path is left that is shorter.
+#![tactic(auto)]
+
 ghost use Rattle.std.specs.Prelude.{◌≡◌, ◌+◌, ◌*◌, ◌≤◌, ◌<◌, min, length, get_or};
 ghost use Rattle.rules.specs.Basics.{up_to};
 ghost use Rattle.rules.specs.Distance.{far};

@@ -2,7 +2,7 @@
 use Rattle.std.specs.Prelude.{Bool, true, false, not, ◌&&◌, ◌≡◌, List, ◌++◌, ℕ, zero, suc, ◌+◌, ◌-◌, ◌≤◌, ◌<◌, eqb, get_or}
 use Rattle.rules.specs.Basics.{if◌then◌else◌, lowest, least, up_to, flat}
 use Rattle.rules.specs.File.{Set}
-use Rattle.rules.specs.Isolation.{home, neighbours, hop_weight, usable, class, Class, Restricted, link_between}
+use Rattle.rules.specs.Isolation.{home, neighbours, hop_weight, usable, class, Class, link_between}
 
 -- ---- "The distance from u to t in a topology is the least total weight over all paths of usable links."
 

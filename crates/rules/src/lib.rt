@@ -1,12 +1,14 @@
 // The rules of document 01: the types that every entry speaks in, at the file's widths, and the limits and sizes that follow
 // from them. What the words of 01 mean stands in specs/, in 01's order. Every other crate is code that is proved equal to
 // those definitions; this one promises that its sizes are the ones that the definitions give.
+#![tactic(auto)]
+
 ghost use Rattle.std.specs.Prelude.{◌≡◌, ◌*◌, ◌-◌, ◌≤◌, ◌<◌};
 ghost use Rattle.rules.specs.Limits.{restricted_weight, row_weights, row_length, home_records, file_length, tables_length, most_hops, trail_room, report_room, longest};
 ghost use Rattle.rules.specs.Forwarding.{entry_place};
 
 // The counts of a file's header, at the file's widths.
-#[derive(Drop)]
+#[derive(Clone, Copy)]
 pub struct Network {
     pub n: u8,
     pub m: u16,
@@ -15,7 +17,7 @@ pub struct Network {
 }
 
 // The longest of each thing that a caller lends room for.
-#[derive(Drop)]
+#[derive(Clone, Copy)]
 pub struct Longest {
     pub file: usize,
     pub tables: usize,
@@ -242,28 +244,28 @@ fn times(x: usize, y: usize) -> usize
 }
 
 // What the judge and taking in say: accepted, or refused with 01's number and place.
-#[derive(Drop)]
+#[derive(Clone, Copy)]
 pub enum Verdict {
     Accepted,
     Refused { number: u8, place: usize },
 }
 
 // What reading answers: the header, or the refusal.
-#[derive(Drop)]
+#[derive(Clone, Copy)]
 pub enum ReadAnswer {
     Read(Network),
     Refused { number: u8, place: usize },
 }
 
 // What writing, building, the tables and the report answer: how many bytes they wrote, or the refusal.
-#[derive(Drop)]
+#[derive(Clone, Copy)]
 pub enum LengthAnswer {
     Length(usize),
     Refused { number: u8, place: usize },
 }
 
 // What is down: nothing, one link by its number in the file, or one node with all its links.
-#[derive(Drop)]
+#[derive(Clone, Copy)]
 pub enum Failure {
     Nothing,
     Link(u16),
@@ -271,7 +273,7 @@ pub enum Failure {
 }
 
 // A packet: where it is, where it goes, and the topology it is in.
-#[derive(Drop)]
+#[derive(Clone, Copy)]
 pub struct Packet {
     pub place: u8,
     pub destination: u8,
@@ -279,7 +281,7 @@ pub struct Packet {
 }
 
 // The kind of a change of topology, by 01's letters, or no change.
-#[derive(Drop)]
+#[derive(Clone, Copy)]
 pub enum Kind {
     Unchanged,
     T,
@@ -288,21 +290,21 @@ pub enum Kind {
 }
 
 // What one step makes of a packet: it was at its destination; it moved, with or without a change of topology; it was dropped.
-#[derive(Drop)]
+#[derive(Clone, Copy)]
 pub enum Step {
     Delivered(Packet),
     Moved(Packet, Kind),
     Dropped(Packet),
 }
 
-#[derive(Drop)]
+#[derive(Clone, Copy)]
 pub enum StepAnswer {
     Taken(Step),
     Refused { number: u8, place: usize },
 }
 
 // How a packet stands.
-#[derive(Drop)]
+#[derive(Clone, Copy)]
 pub enum Outcome {
     UnderWay,
     Delivered,
@@ -310,7 +312,7 @@ pub enum Outcome {
 }
 
 // A run to its end: how it ended, its hops, its last topology and the kind of its one change.
-#[derive(Drop)]
+#[derive(Clone, Copy)]
 pub struct Journey {
     pub outcome: Outcome,
     pub hops: u8,
@@ -318,7 +320,7 @@ pub struct Journey {
     pub kind: Kind,
 }
 
-#[derive(Drop)]
+#[derive(Clone, Copy)]
 pub enum RunAnswer {
     Ended(Journey),
     Refused { number: u8, place: usize },

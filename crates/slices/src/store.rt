@@ -1,5 +1,5 @@
 // Stores: each promises the slice with these bytes from `at` on, as far as it reaches.
-ghost use Rattle.std.specs.Prelude.{◌≡◌, [], ◌∷◌, ◌+◌, ◌<◌, length};
+ghost use Rattle.std.specs.Prelude.{◌≡◌, [], ◌∷◌, ◌++◌, ◌+◌, ◌≤◌, ◌<◌, length, drop};
 ghost use Rattle.rules.specs.File.{bytes2};
 ghost use Rattle.slices.specs.Stores.{put};
 
@@ -67,4 +67,16 @@ pub fn number(bytes: &mut [u8], at: usize, w: u16)
     ensures { bytes.new ≡ put bytes.old at (bytes2 w) }
 {
     two(bytes, at, (w / 256) as u8, (w % 256) as u8);
+}
+
+// All of `from` at the front of `to`; its length.
+// Rules out: the bytes of `to` past the front altered; the length of `to` for that of `from`.
+pub fn copy(from: &[u8], to: &mut [u8]) -> usize
+    requires { length from.now ≤ length to.old }
+    ensures count { result ≡ length from.now }
+    ensures front { to.new ≡ from.now ++ drop (length from.now) to.old }
+{
+    let long = from.len();
+    to[..long].copy_from_slice(from);
+    long
 }

@@ -1,5 +1,7 @@
 // The tables of an accepted set's file, by lists. `fill` promises that lent room of the tables' length becomes the published tables;
 // its caller has seen to it that the file is accepted. The lists that the tables are made from are local.
+#![tactic(auto)]
+
 ghost use Rattle.std.specs.Prelude.{◌≡◌, ◌*◌, length};
 ghost use Rattle.rules.specs.declared.Verdict.TheVariants.{Accepted};
 ghost use Rattle.rules.specs.Limits.{tables_length, largest};

@@ -1,5 +1,7 @@
 // The entry: the tables of a set's file. `tables` promises, for any bytes and any room, the published tables at the front of the lent
 // room and their length, or the published refusal with every lent byte as it came: 1 to 6, 7 and 8 by topology, 13, 14.
+#![tactic(auto)]
+
 ghost use Rattle.std.specs.Prelude.{◌≡◌};
 ghost use Rattle.rules.specs.Entries.Entry.{Promise};
 ghost use Rattle.rules.specs.Entries.Tables.{tables_entry};

@@ -1,6 +1,8 @@
 // Text at a cursor: bytes, numbers in decimal, with a sign where they have one, labels and letters. Each function promises that its
 // bytes stand from `at` on, as far as the text reaches, and returns the place after them. A byte past the text's end is not stored, so
 // no caller has to ask for room.
+#![tactic(auto)]
+
 ghost use Rattle.std.specs.Prelude.{◌≡◌, [], ◌∷◌, ◌++◌, ◌+◌, ◌≤◌, ◌<◌, pos, nat_abs, length};
 ghost use Rattle.std.specs.Int.Signed.{lt_z};
 ghost use Rattle.rules.specs.Forwarding.{letter};

@@ -3,6 +3,8 @@
 // masked by the backbone word, has two ones or more. Each function promises one equation with the definition of its name in
 // specs/: `topology_number` is 0, or the number of the rule that is broken, 7 before 8. That this is 01's number of a topology
 // is shown in proofs/.
+#![tactic(auto)]
+
 ghost use Rattle.std.specs.Prelude.{◌≡◌, true, ◌<◌, ◌≤◌, eqb, leb, get_or};
 ghost use Rattle.std.specs.Int.Count.{ones};
 ghost use Rattle.words.specs.Word.{has, both};

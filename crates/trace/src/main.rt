@@ -1,5 +1,6 @@
 // The trace: a set from standard input, and a question as arguments: what is down, a source and a destination. One line on standard
 // output for each hop of the packet, seen from the node that makes it, and a last line that says how the run ended; or the refusal.
+#![tactic(auto)]
 ghost use Rattle.std.specs.Prelude.{◌≡◌};
 ghost use Rattle.rules.specs.declared.Verdict.TheVariants.{Accepted};
 ghost use Rattle.rules.specs.Judgement.{judge};

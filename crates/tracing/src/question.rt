@@ -4,21 +4,21 @@ use console::{Number, argument};
 use libc::STDERR_FILENO;
 
 // What is down: nothing, a link by its two ends, or a node.
-#[derive(Drop)]
+#[derive(Clone, Copy)]
 pub enum Down {
     Nothing,
     Link(u8, u8),
     Node(u8),
 }
 
-#[derive(Drop)]
+#[derive(Clone, Copy)]
 pub struct Question {
     pub down: Down,
     pub source: u8,
     pub destination: u8,
 }
 
-#[derive(Drop)]
+#[derive(Clone, Copy)]
 pub enum Asked {
     Clear(Question),
     Unclear,

@@ -1,6 +1,8 @@
 // A packet's run to its end by tables that are lent, as they are: step after step, each node visited written into the trail. `travel`
 // promises the run that the rules make under this failure, of at most so many hops: its outcome, hops, last topology and the kind of
 // its change, and every byte of the trail.
+#![tactic(auto)]
+
 ghost use Rattle.std.specs.Prelude.{◌≡◌, [], ◌∷◌, ◌+◌, ◌<◌, length};
 ghost use Rattle.rules.specs.Forwarding.{first_kind};
 ghost use Rattle.slices.specs.Stores.{put};

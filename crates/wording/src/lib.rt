@@ -1,6 +1,7 @@
 // What a case is written in: text by its words and numbers. Nothing here knows the network: the
 // program `cases` does. Every function can be asked anything: what is not there is empty, 0 or NONE. So none promises more than
 // that it is safe and ends, but for the bounds that a room's parts need.
+#![tactic(auto)]
 pub mod asked; // asked.rt: what a case asks
 pub mod change; // change.rt: the changes that a case makes to its file
 

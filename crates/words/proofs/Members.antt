@@ -210,7 +210,7 @@ ltb_suc v n = go (eqb v n) refl (ltb v n) refl
     go false e true f = let q = ltb-true v n f in rw (e, f, lt-ltb v (suc n) (omega arith))
     go false e false f =
         let q = eqb-false v n e in
-        let r = borrow.Author.Tests.ltb_false v n f in
+        let r = borrow.Author.Tests.ltb-false v n f in
         rw (e, f, le-ltb v (suc n) (omega arith))
 
 has_put_at : (p : ℕ → Bool) (a t : Bool) (n v : ℕ) → eqb v n ≡ t → ((a && p v) || (p n && t)) ≡ ((a || t) && p v)

@@ -1,6 +1,8 @@
 // A set of nodes as a 32-bit word: node v is in it where bit v is set. Each function promises one equation with the definition
 // of its name; who is in the result, how many ones a word has and which is its lowest stand as laws in proofs/, in terms of
 // the definitions of 01. A node is below 32 here.
+#![tactic(auto)]
+
 ghost use Rattle.std.specs.Prelude.{◌≡◌, ◌<◌, ◌≤◌};
 ghost use Rattle.std.specs.Int.Count.{ones};
 ghost use Rattle.words.specs.Word.{has, both, either, minus, only, adding, removing, firsts, lowest_in, put};

@@ -78,11 +78,11 @@ module _ (s before : List ℕ) (v : Verdict) (verdict_is : v ≡ laid_verdict s 
       let same : laid_verdict s (length before) ≡ Refused number place = sym verdict_is ∙ t in
       record { answer = rw same; lent = rw same }
 
-  pub copied_taken : (n bytes : ℕ) (after : List ℕ) → v ≡ Accepted → n ≡ length s → bytes ≡ n → after ≡ take n s ++ drop n before → Copied s before (answer.Length bytes) after
+  pub copied_taken : (bytes : ℕ) (after : List ℕ) → v ≡ Accepted → bytes ≡ length s → after ≡ s ++ drop (length s) before → Copied s before (answer.Length bytes) after
   unfolding length_tells tell on_accept laid
-  copied_taken n bytes after t en eb ea =
+  copied_taken bytes after t eb ea =
       let same : laid_verdict s (length before) ≡ Accepted = sym verdict_is ∙ t in
-      record { answer = rw (same, eb, en); lent = rw same (ea ∙ rw en (ap (λ (x : List ℕ). x ++ drop (length s) before) (take_all (length s) s (omega arith)))) }
+      record { answer = rw (same, eb); lent = rw same ea }
 
 pub ruleset copying = (copy_fits, copied_refused, copied_taken)
 

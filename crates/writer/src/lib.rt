@@ -3,6 +3,8 @@
 // file at the front of the room; a refusal leaves the room as it came. Entries past the counts are neither written nor compared.
 // The lists are laid as bytes (`laying`) in room of the writer's own, those bytes are taken in as every file is (`intake`: 1 to 6 by
 // record, 7 and 8 by topology), and only then are they copied into the lent file.
+#![tactic(auto)]
+
 ghost use Rattle.std.specs.Prelude.{◌≡◌, length};
 ghost use Rattle.rules.specs.declared.Verdict.TheVariants.{Accepted};
 ghost use Rattle.rules.specs.Limits.{file_length};
@@ -40,7 +42,7 @@ fn copied(laid: &[u8], file: &mut [u8]) -> LengthAnswer
 {
     let v = laid_verdict(laid, file.len());
     match v {
-        Verdict::Accepted => LengthAnswer::Length(bytes::copy(laid, file)),
+        Verdict::Accepted => LengthAnswer::Length(slices::store::copy(laid, file)),
         Verdict::Refused { number, place } => LengthAnswer::Refused { number, place },
     }
 }

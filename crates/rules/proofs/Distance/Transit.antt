@@ -49,15 +49,15 @@ module _ (S : Set) (A : AcceptedSet S) (i : ℕ) (lo : 1 ≤ i) (hi : i ≤ S.ne
       (rounds.over (backbone_node S i x q.one) (backbone_node S i w q.other)
       (omega (arith, if_yes (normal_hop S i x w) (hop_weight S i x w) 0 e, (normal_weight_fits S A i x w hi e).0)) p)
 
-  way_distance : (u w t d : ℕ) → t < S.net.n → Way (normal_weight S i) S.net.n w u d → distance S i u t ≤ d + distance S i w t
-  way_distance u w t d lt rounds.there = omega arith
-  way_distance u w t d lt (rounds.over {w = x} {total = e} lu lx g r) =
+  way_distance : (w u t d : ℕ) → t < S.net.n → Way (normal_weight S i) S.net.n w u d → distance S i u t ≤ d + distance S i w t
+  way_distance w u t d lt rounds.there = omega arith
+  way_distance w u t d lt (rounds.over {w = x} {total = e} lu lx g r) =
       let n = normal_only u x g in
       omega (
         arith,
         if_yes (normal_hop S i u x) (hop_weight S i u x) 0 n,
         distance_over S A i t hi lt u x (hop_usable S i u x (normal_weight_fits S A i u x hi n).0),
-        way_distance x w t e lt r,
+        way_distance w x t e lt r,
       )
 
   -- between nodes of the backbone a path weighs less than one restricted link
@@ -73,7 +73,7 @@ module _ (S : Set) (A : AcceptedSet S) (i : ℕ) (lo : 1 ≤ i) (hi : i ≤ S.ne
       let g = found_light (normal_weight S i) S.net.n far w (S.net.n - 1) size S.net.wmax normal_light less u p.0 p.1 in
       omega (
         arith,
-        way_distance u w t d lt (attained (normal_weight S i) S.net.n far w (S.net.n - 1) u lu f),
+        way_distance w u t d lt (attained (normal_weight S i) S.net.n far w (S.net.n - 1) u lu f),
         g,
         path_below_restricted S A,
       )
@@ -84,9 +84,9 @@ module _ (S : Set) (A : AcceptedSet S) (i : ℕ) (lo : 1 ≤ i) (hi : i ≤ S.ne
   leaving u t d e ne here = absurd (ne refl)
   leaving u t d e ne (over {w = w} {total = x} lu lw g r) = omega (arith, hop_leaves S i u w e (usable_hop S i u w g))
 
-  entering : (u t d : ℕ) → isolated S i t ≡ true → (u ≡ t → ⊥) → Path S i t u d → restricted_weight S.net ≤ d
-  entering u t d e ne here = absurd (ne refl)
-  entering u t d e ne (over {w = w} {total = x} lu lw g r) = by (λ ne'. entering w t x e ne' r) (eqb w t) refl
+  entering : (t u d : ℕ) → isolated S i t ≡ true → (u ≡ t → ⊥) → Path S i t u d → restricted_weight S.net ≤ d
+  entering t u d e ne here = absurd (ne refl)
+  entering t u d e ne (over {w = w} {total = x} lu lw g r) = by (λ ne'. entering t w x e ne' r) (eqb w t) refl
     where
       by : ((w ≡ t → ⊥) → restricted_weight S.net ≤ x) → (b : Bool) → eqb w t ≡ b → restricted_weight S.net ≤ hop_weight S i u w + x
       by ih true q = omega (arith, hop_enters S i u w (rw (eqb-true w t q) e) (usable_hop S i u w g))
@@ -98,7 +98,7 @@ module _ (S : Set) (A : AcceptedSet S) (i : ℕ) (lo : 1 ≤ i) (hi : i ≤ S.ne
     from_isolated e ne = leaving u t (distance S i u t) e ne (least_distances S A i u t hi lu lt).attained
 
     pub to_isolated : isolated S i t ≡ true → (u ≡ t → ⊥) → restricted_weight S.net ≤ distance S i u t
-    to_isolated e ne = entering u t (distance S i u t) e ne (least_distances S A i u t hi lu lt).attained
+    to_isolated e ne = entering t u (distance S i u t) e ne (least_distances S A i u t hi lu lt).attained
 
     -- from the backbone any node is nearer than two restricted links
     pub from_backbone : isolated S i u ≡ false → distance S i u t < 2 * restricted_weight S.net

@@ -3,7 +3,7 @@ use mathlib.Core.Path.{◌≡◌, refl, sym, ap, subst, ◌∙◌}
 use mathlib.Core.Bool.{Bool, true, false, cond}
 use Prim.Native.Nat.{ℕ, zero, suc, ◌+◌, ◌-◌, ◌≤◌, ◌<◌}
 use native.Mathlib.Omega.{arith}
-use lib.Dec.{leb, ltb, le→leb, lt→ltb}
+use lib.Dec.{ltb, le→leb, lt→ltb}
 use lib.IntN.{ℤ, pos, negsuc, neg_ℤ, ◌-ℤ◌}
 use lib.Signed.{◌≤ℤ◌, ◌<ℤ◌}
 use borrow.Author.Tests.{lt-ltb, le-ltb, ltb-true, ltb-false}

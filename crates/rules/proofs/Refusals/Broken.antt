@@ -9,14 +9,14 @@ use Rattle.rules.specs.declared.Verdict.TheVariants.{Accepted, Refused}
 use Rattle.rules.specs.File.{Set, encode, set_of}
 use Rattle.rules.specs.Isolation.{connected, two_links, topology_number}
 use Rattle.rules.specs.Judgement.{refuse, judge, topologies, take_in}
-use Rattle.rules.specs.Answers.{accepted, refused, tell}
-use Rattle.rules.specs.Entries.Entry.{Entry, Promise}
+use Rattle.rules.specs.Answers.{accepted, tell}
+use Rattle.rules.specs.Entries.Entry.{Entry}
 use Rattle.rules.specs.Entries.Read.{read_entry}
 use Rattle.rules.specs.Entries.Write.{WriteInput, set_with, write_entry}
-use Rattle.rules.specs.Entries.Build.{BuildInput, build_entry}
+use Rattle.rules.specs.Entries.Build.{build_entry}
 use Rattle.rules.specs.Entries.Tables.{tables_entry}
 use Rattle.rules.specs.Entries.Step.{StepInput, step_entry}
-use Rattle.rules.specs.Entries.Run.{RunInput, run_entry}
+use Rattle.rules.specs.Entries.Run.{run_entry}
 use Rattle.rules.specs.Entries.Report.{report_entry}
 use Rattle.rules.specs.Sets.{WithinLimits, FileOf, Sound}
 use Rattle.rules.specs.Demands.Form.{IsRead, IsLength, IsEnded}

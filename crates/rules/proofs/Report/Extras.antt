@@ -1,7 +1,7 @@
 -- 02, a: the extra hops of a line. A path over the link to the next hop, or round it, has at least one hop and at most n - 1, which bounds their difference on both
 -- sides. Where the kind is S or D that next hop is the destination: one hop leads there with nothing down, and two at least with its link down.
 use mathlib.Core.Path.{◌≡◌, refl, sym, ap, subst, ◌∙◌}
-use mathlib.Core.Bool.{Bool, true, false, true≢false}
+use mathlib.Core.Bool.{Bool, true, true≢false}
 use mathlib.Core.List.{List, [], ◌∷◌, ◌++◌, append_assoc}
 use Prim.Native.Nat.{ℕ, zero, suc, ◌+◌, ◌-◌, ◌*◌, ◌≤◌, ◌<◌}
 use native.Mathlib.Numerals.{add-one}
@@ -26,16 +26,16 @@ use Rattle.rules.specs.Forwarding.{nothing, link, failed, up, tables_of, packet,
 use Rattle.rules.specs.Report.{decimal, signed, space, newline, packet_of, kind_of, detected_link, detection, backup_hops, plain_hops, extra_hops, detection_line}
 use Rattle.rules.specs.Sets.{AcceptedSet}
 use Rattle.rules.specs.Demands.Delivery.{EachHop, last}
-use Rattle.rules.specs.Demands.Detections.{ExtraIs, ExtrasAre}
+use Rattle.rules.specs.Demands.Detections.{ExtrasAre}
 use Rattle.rules.proofs.Ground.Integers.{minus_most, minus_least, minus_above}
 use Rattle.rules.proofs.Isolation.Homes.{home_low, home_high}
 use Rattle.rules.proofs.Distance.Rounds.{rank, rank_lt, rank_bound}
 use Rattle.rules.proofs.Forwarding.Routing.{Nearer}
 use Rattle.rules.proofs.Forwarding.Steps.{Onto, View, there, plain, stuck, other, other_down, around, around_down, view}
-use Rattle.rules.proofs.Forwarding.Runs.{hops_left, Within, next_of, other_of, around_of, starts, trip}
+use Rattle.rules.proofs.Forwarding.Runs.{hops_left, next_of, other_of, around_of, starts, trip}
 use Rattle.rules.proofs.Forwarding.Delivery.{delivery}
 use Rattle.rules.proofs.Forwarding.ChangeKinds.{kinds}
-use Rattle.rules.proofs.Report.Lines.{Changes, detected, detection_changes, lines_are_runs}
+use Rattle.rules.proofs.Report.Lines.{Changes, detected, detection_changes}
 
 -- a run from where the packet is to go makes no hop
 there_already : (S : Set) (on : ℕ → ℕ → Bool) (h v t : ℕ) → v ≡ t → length (run S (tables_of S) on h (packet v t 0)).visited ≡ 0

@@ -1,5 +1,5 @@
 -- 02's request h: "Every caller reads and then checks, and one tool forgot the check." No entry but the step accepts a set that breaks 7 or 8.
-use Rattle.std.specs.Prelude.{◌≡◌, List, ℕ, ◌≤◌, ◌<◌}
+use Rattle.std.specs.Prelude.{◌≡◌, ℕ, ◌≤◌, ◌<◌}
 use Rattle.rules.specs.declared.StepAnswer.{StepAnswer}
 use Rattle.rules.specs.File.{Set}
 use Rattle.rules.specs.Answers.{refused}

@@ -1,0 +1,13 @@
+use Rattle.alternates.proofs.Neighbours.{row_done, row_more, row_none}
+use borrow.Author.Rules.{rules}
+use Prim.Native.Nat.{◌-◌}
+use Rattle.alternates.proofs.alternate_row.Goals as goal
+
+pub loop-v-init : goal.loop-v-init
+loop-v-init c = (search rules, search rules, search row_none)
+
+pub loop-v-preserved : goal.loop-v-preserved
+loop-v-preserved c = (search rules, search rules, search row_more)
+
+pub returns : goal.returns
+returns c = search row_done

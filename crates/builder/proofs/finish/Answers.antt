@@ -1,0 +1,14 @@
+use Rattle.builder.proofs.Answers.{links_in, no_room, room, room_there}
+use Rattle.builder.proofs.finish.Goals as goal
+
+pub put_set-requires-clause-links_in : goal.put_set-requires-clause-links_in
+put_set-requires-clause-links_in c = search links_in
+
+pub put_set-requires-clause-net_in_bounds : goal.put_set-requires-clause-net_in_bounds
+put_set-requires-clause-net_in_bounds c = search room_there
+
+pub returns-in-Accepted : goal.returns-in-Accepted
+returns-in-Accepted c = search room
+
+pub returns-in-Refused : goal.returns-in-Refused
+returns-in-Refused c = search no_room

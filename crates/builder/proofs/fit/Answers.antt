@@ -1,0 +1,15 @@
+use Rattle.builder.proofs.Answers.{all_fitted, not_placed}
+use Rattle.intake.proofs.Files.{few_of, some_of}
+use Rattle.builder.proofs.fit.Goals as goal
+
+pub first_fit-placed-requires-clause-le_n : goal.first_fit-placed-requires-clause-le_n
+first_fit-placed-requires-clause-le_n c = (search some_of, search few_of)
+
+pub unplaced_number-number-requires : goal.unplaced_number-number-requires
+unplaced_number-number-requires c = (search some_of, search few_of)
+
+pub returns-then-placed-net : goal.returns-then-placed-net
+returns-then-placed-net c = search not_placed
+
+pub returns : goal.returns
+returns c = search all_fitted

@@ -1,0 +1,5 @@
+use Rattle.burnishpeg.proofs.Entries.{entries}
+use Rattle.burnishpeg.proofs.burnishpeg_run.Goals as goal
+
+pub returns : goal.returns
+returns c = search entries

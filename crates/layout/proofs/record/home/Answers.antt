@@ -1,0 +1,5 @@
+use Rattle.layout.proofs.Records.{records}
+use Rattle.layout.proofs.record.home.Goals as goal
+
+pub returns : goal.returns
+returns c = search records

@@ -1,0 +1,13 @@
+use Prim.Native.Nat.{◌-◌}
+use borrow.Author.Rules.{rules}
+use Rattle.lines.proofs.Wholes.{wholes}
+use Rattle.lines.proofs.all_lines.Goals as goal
+
+pub loop-u-init : goal.loop-u-init
+loop-u-init c = (search rules, search wholes)
+
+pub loop-u-preserved : goal.loop-u-preserved
+loop-u-preserved c = (search rules, search wholes)
+
+pub returns : goal.returns
+returns c = search wholes

@@ -1,0 +1,5 @@
+use Rattle.lines.proofs.Wholes.{wholes}
+use Rattle.lines.proofs.last_line.Goals as goal
+
+pub returns : goal.returns
+returns c = search wholes

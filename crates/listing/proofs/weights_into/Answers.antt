@@ -1,0 +1,5 @@
+use Rattle.listing.proofs.Laying.{fields}
+use Rattle.listing.proofs.weights_into.Goals as goal
+
+pub returns : goal.returns
+returns c = search fields

@@ -1,0 +1,16 @@
+use borrow.Author.Rules.{rules}
+use Rattle.routes.proofs.Steps.{begun, unit_more, unit_none}
+use Prim.Native.Nat.{◌-◌}
+use Rattle.routes.proofs.begin.Reads as reads
+use Rattle.routes.proofs.begin.Lts as lts
+use Rattle.routes.proofs.unit.Reads as unit-reads
+use Rattle.routes.proofs.begin.Goals as goal
+
+pub loop-u-init : goal.loop-u-init
+loop-u-init c = (search rules, search unit_none)
+
+pub loop-u-preserved : goal.loop-u-preserved
+loop-u-preserved c = (search rules, search unit_more)
+
+pub returns : goal.returns
+returns c = search begun

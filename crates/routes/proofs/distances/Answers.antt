@@ -1,0 +1,25 @@
+use Rattle.routes.proofs.Steps.{distances_made, units_are_low, units_wired, wired_few, few_linked, low_linked}
+use Rattle.routes.proofs.distances.Reads as reads
+use Rattle.routes.proofs.distances.Lts as lts
+use Rattle.routes.proofs.begin.Reads as begin-reads
+use Rattle.routes.proofs.direct_links.Reads as direct-links-reads
+use Rattle.routes.proofs.settle.Reads as settle-reads
+use Rattle.routes.proofs.distances.Goals as goal
+
+pub begin-requires : goal.begin-requires
+begin-requires c = search wired_few
+
+pub direct_links-requires-clause-wired : goal.direct_links-requires-clause-wired
+direct_links-requires-clause-wired c = search units_wired
+
+pub direct_links-requires-clause-low_rows : goal.direct_links-requires-clause-low_rows
+direct_links-requires-clause-low_rows c = search units_are_low
+
+pub settle-requires-clause-d_len_bound : goal.settle-requires-clause-d_len_bound
+settle-requires-clause-d_len_bound c = search few_linked
+
+pub settle-requires-clause-low_rows : goal.settle-requires-clause-low_rows
+settle-requires-clause-low_rows c = search low_linked
+
+pub returns : goal.returns
+returns c = search distances_made

@@ -1,0 +1,14 @@
+use Rattle.routes.proofs.Costs.{costs_more}
+use borrow.Author.Rules.{rules}
+use Rattle.routes.proofs.Filling.{fill_done, fill_none}
+use Prim.Native.Nat.{◌-◌}
+use Rattle.routes.proofs.fill_costs.Goals as goal
+
+pub loop-l-init : goal.loop-l-init
+loop-l-init c = (search rules, search rules, search rules, search fill_none)
+
+pub loop-l-preserved : goal.loop-l-preserved
+loop-l-preserved c = (search rules, search rules, search rules, search costs_more)
+
+pub returns : goal.returns
+returns c = search fill_done

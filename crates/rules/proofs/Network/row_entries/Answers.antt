@@ -1,0 +1,5 @@
+use Rattle.rules.proofs.Ground.Sizes.{sizes}
+use Rattle.rules.proofs.Network.row_entries.Goals as goal
+
+pub returns : goal.returns
+returns c = search sizes

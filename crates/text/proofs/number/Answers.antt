@@ -1,0 +1,8 @@
+use Rattle.text.proofs.Texts.{texts}
+use Rattle.text.proofs.number.Goals as goal
+
+pub returns-then-x-lt10 : goal.returns-then-x-lt10
+returns-then-x-lt10 c = search texts
+
+pub returns : goal.returns
+returns c = search texts
