@@ -1,4 +1,4 @@
-/* The proved entries of Burnishpeg for C. Link libburnishpeg.a, made by `rt staticlib burnishpeg`.
+/* The proved entries of Burnishpeg for C. Link libburnishpeg.a, made by `tools/library`.
  *
  * Every function takes any bytes and any numbers, and keeps nothing. A pointer with a length of 0 may be anything but null.
  * What is lent as `const` is read only. Buffers that one call is given must not overlap, except that two `const` ones may.

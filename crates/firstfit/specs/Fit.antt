@@ -1,5 +1,5 @@
 -- First fit over words: each node's neighbours in `nb`, each topology's isolated nodes as a word.
-use Rattle.std.specs.Prelude.{◌≡◌, Bool, List, ℕ, zero, suc, ◌-◌, ◌≤◌, ◌<◌, eqb, length, get_or, set, replicate}
+use Rattle.std.specs.Prelude.{◌≡◌, Bool, List, ℕ, zero, suc, ◌≤◌, ◌<◌, eqb, length, get_or, set, replicate}
 use Rattle.rules.specs.Basics.{all, lowest}
 use Rattle.rules.specs.Isolation.{word}
 use Rattle.words.specs.Word.{adding, only}

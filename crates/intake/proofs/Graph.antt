@@ -13,7 +13,7 @@ use Rattle.rules.specs.declared.Verdict.TheVariants.{Accepted}
 use Rattle.rules.specs.Basics.{any, lowest}
 use Rattle.rules.specs.Limits.{home_records}
 use Rattle.rules.specs.File.{Set, set_of, header_of, end_a, end_b, home_topology}
-use Rattle.rules.specs.Isolation.{joins, link_between, neighbours, home, isolated, isolated_word, word}
+use Rattle.rules.specs.Isolation.{joins, link_between, neighbours, isolated, isolated_word, word}
 use Rattle.rules.specs.Judgement.{judge}
 use Rattle.rules.proofs.Ground.Choices.{clash, false_of, same_test}
 use Rattle.rules.proofs.Ground.Numbers.{any_at, any_of, any_ext, lowest_none, lowest_found}

@@ -1,6 +1,5 @@
 use Rattle.alternates.proofs.Neighbours.{row_done, row_more, row_none}
 use borrow.Author.Rules.{rules}
-use Prim.Native.Nat.{◌-◌}
 use Rattle.alternates.proofs.alternate_row.Goals as goal
 
 pub loop-v-init : goal.loop-v-init

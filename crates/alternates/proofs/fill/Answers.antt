@@ -1,6 +1,5 @@
 use Rattle.alternates.proofs.Neighbours.{node_homed, nodes_done, nodes_few, nodes_homed, nodes_more, nodes_none}
 use borrow.Author.Rules.{rules}
-use Prim.Native.Nat.{◌-◌}
 use Rattle.alternates.proofs.fill.Goals as goal
 
 pub loop-u-init : goal.loop-u-init

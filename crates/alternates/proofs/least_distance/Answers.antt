@@ -1,6 +1,5 @@
 use borrow.Author.Rules.{rules}
 use Rattle.alternates.proofs.Neighbours.{least_done, least_more, least_none}
-use Prim.Native.Nat.{◌-◌}
 use Rattle.alternates.proofs.least_distance.Goals as goal
 
 pub loop-w-init : goal.loop-w-init

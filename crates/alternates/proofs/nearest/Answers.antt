@@ -1,6 +1,5 @@
 use Rattle.alternates.proofs.Neighbours.{word_done, word_more, word_none}
 use borrow.Author.Rules.{rules}
-use Prim.Native.Nat.{◌-◌}
 use Rattle.alternates.proofs.nearest.Goals as goal
 
 pub loop-w-init : goal.loop-w-init

@@ -1,6 +1,5 @@
 use borrow.Author.Rules.{rules}
 use Rattle.alternates.proofs.Neighbours.{a_few, a_homed, b_few, b_homed, b_reads, outlets_done, outlets_more, outlets_none}
-use Prim.Native.Nat.{◌-◌}
 use Rattle.alternates.proofs.outlets.Goals as goal
 
 pub loop-l-init : goal.loop-l-init

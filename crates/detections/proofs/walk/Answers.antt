@@ -1,4 +1,3 @@
-use Prim.Native.Nat.{◌-◌}
 use Rattle.detections.proofs.Seens.{walks}
 use Rattle.detections.proofs.walk.Goals as goal
 

@@ -1,7 +1,6 @@
 use borrow.Author.Rules.{rules}
 use Rattle.routes.proofs.Filling.{fill_none}
 use Rattle.engine.proofs.Whole.{copy_done, copy_more}
-use Prim.Native.Nat.{◌-◌}
 use Rattle.engine.proofs.copy_row.Goals as goal
 
 pub loop-v-init : goal.loop-v-init

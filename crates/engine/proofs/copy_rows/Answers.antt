@@ -1,7 +1,6 @@
 use borrow.Author.Rules.{rules}
 use Rattle.engine.proofs.Whole.{copies_done, copies_more}
 use Rattle.routes.proofs.Filling.{at_end, at_fits, at_more, at_none, row_part, rows_long, rows_none}
-use Prim.Native.Nat.{◌-◌}
 use Rattle.engine.proofs.copy_rows.Goals as goal
 
 pub loop-u-init : goal.loop-u-init

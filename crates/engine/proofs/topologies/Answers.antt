@@ -1,6 +1,5 @@
 use borrow.Author.Rules.{rules}
 use Rattle.engine.proofs.Whole.{at_fits, square_fits, stage_alternates, stage_done, stage_more, stage_none, turn_fits, turn_room, work_on}
-use Prim.Native.Nat.{◌-◌}
 use Rattle.engine.proofs.topologies.Goals as goal
 
 pub overflow_mul-size : goal.overflow_mul-size

@@ -1,4 +1,3 @@
-use Prim.Native.Nat.{◌-◌}
 use Rattle.filling.proofs.Stored.{link_copied, link_room}
 use Rattle.layout.proofs.Places.{link_inside}
 use Rattle.slices.proofs.Stores.{storing_done, storing_none}

@@ -1,4 +1,3 @@
-use Prim.Native.Nat.{◌-◌}
 use Rattle.filling.proofs.Stored.{row_room, rows_filled}
 use Rattle.slices.proofs.Stores.{storing_done, storing_none}
 use Rattle.filling.proofs.put_rows.Goals as goal

@@ -1,4 +1,3 @@
-use Prim.Native.Nat.{◌-◌}
 use Rattle.filling.proofs.Stored.{a_below, b_below, place_inside, weight_filled, weight_inside}
 use Rattle.slices.proofs.Stores.{storing_done, storing_none}
 use Rattle.filling.proofs.put_weights.Goals as goal

@@ -1,4 +1,3 @@
-use Prim.Native.Nat.{◌-◌}
 use Rattle.firstfit.proofs.Placing.{spared_done, spared_none, spared_on, spared_out}
 use borrow.Author.Rules.{rules}
 use Rattle.firstfit.proofs.all_spared.Goals as goal

@@ -1,4 +1,3 @@
-use Prim.Native.Nat.{◌-◌}
 use Rattle.firstfit.proofs.Placing.{placed_all, placed_part, placing_more, placing_none, tried_more, tried_none}
 use borrow.Author.Rules.{rules}
 use Rattle.firstfit.proofs.first_fit.Goals as goal

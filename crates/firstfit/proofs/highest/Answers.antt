@@ -1,4 +1,3 @@
-use Prim.Native.Nat.{◌-◌}
 use Rattle.firstfit.proofs.Placing.{highest_done, highest_more, highest_none}
 use borrow.Author.Rules.{rules}
 use Rattle.firstfit.proofs.highest.Goals as goal

@@ -1,4 +1,3 @@
-use Prim.Native.Nat.{◌-◌}
 use Rattle.intake.proofs.Files.{turns}
 use borrow.Author.Rules.{rules}
 use Rattle.intake.proofs.in_turn.Goals as goal

@@ -1,4 +1,3 @@
-use Prim.Native.Nat.{◌-◌}
 use Rattle.intake.proofs.Files.{homes_low, isolated_done, isolated_more, isolated_none}
 use borrow.Author.Rules.{rules}
 use Rattle.intake.proofs.isolated_words.Goals as goal

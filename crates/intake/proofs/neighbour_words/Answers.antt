@@ -1,4 +1,3 @@
-use Prim.Native.Nat.{◌-◌}
 use Rattle.intake.proofs.Files.{ends_low, link_there, linked_done, linked_more, linked_none}
 use borrow.Author.Rules.{rules}
 use Rattle.intake.proofs.neighbour_words.Goals as goal

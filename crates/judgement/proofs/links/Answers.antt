@@ -1,4 +1,3 @@
-use Prim.Native.Nat.{◌-◌}
 use Rattle.judgement.proofs.InTurn.{link_turns, ranked_none}
 use Rattle.layout.proofs.Places.{link_inside}
 use Rattle.rules.proofs.Ground.Choices.{turn_none}

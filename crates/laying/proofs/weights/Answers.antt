@@ -1,4 +1,3 @@
-use Prim.Native.Nat.{◌-◌}
 use Rattle.laying.proofs.Stores.{lays}
 use Rattle.laying.proofs.weights.Goals as goal
 

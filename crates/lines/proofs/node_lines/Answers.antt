@@ -1,4 +1,3 @@
-use Prim.Native.Nat.{◌-◌}
 use borrow.Author.Rules.{rules}
 use Rattle.lines.proofs.Wholes.{wholes}
 use Rattle.lines.proofs.node_lines.Goals as goal

@@ -1,4 +1,3 @@
-use Prim.Native.Nat.{◌-◌}
 use Rattle.linkstate.proofs.Graph.{graph}
 use Rattle.linkstate.proofs.link_between.Goals as goal
 

@@ -1,4 +1,3 @@
-use Prim.Native.Nat.{◌-◌}
 use borrow.Author.Rules.{rules}
 use Rattle.listing.proofs.Laying.{rows_in_turn}
 use Rattle.listing.proofs.rows_into.Goals as goal

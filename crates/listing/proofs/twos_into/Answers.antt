@@ -1,4 +1,3 @@
-use Prim.Native.Nat.{◌-◌}
 use Rattle.listing.proofs.Laying.{laying}
 use Rattle.listing.proofs.twos_into.Goals as goal
 

@@ -1,5 +1,4 @@
 use Rattle.nexthops.proofs.Ties.{clear_more, clear_none, cleared}
-use Prim.Native.Nat.{◌-◌}
 use borrow.Author.Rules.{rules}
 use Rattle.nexthops.proofs.clear.Goals as goal
 

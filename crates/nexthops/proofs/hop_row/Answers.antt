@@ -1,7 +1,6 @@
 use Rattle.routes.proofs.Filling.{fill_none}
 use borrow.Author.Rules.{rules}
 use Rattle.nexthops.proofs.Ties.{lane_done, lane_more}
-use Prim.Native.Nat.{◌-◌}
 use Rattle.nexthops.proofs.hop_row.Goals as goal
 
 pub loop-t-init : goal.loop-t-init

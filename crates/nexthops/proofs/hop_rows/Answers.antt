@@ -1,7 +1,6 @@
 use borrow.Author.Rules.{rules}
 use Rattle.nexthops.proofs.Ties.{hops_done, hops_more}
 use Rattle.routes.proofs.Filling.{at_end, at_fits, at_more, at_none, row_part, rows_long, rows_none}
-use Prim.Native.Nat.{◌-◌}
 use Rattle.nexthops.proofs.hop_rows.Goals as goal
 
 pub loop-u-init : goal.loop-u-init

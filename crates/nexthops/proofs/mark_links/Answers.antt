@@ -1,5 +1,4 @@
 use Rattle.nexthops.proofs.Ties.{links_done, links_more, links_none, marked_wide}
-use Prim.Native.Nat.{◌-◌}
 use borrow.Author.Rules.{rules}
 use Rattle.nexthops.proofs.mark_links.Goals as goal
 

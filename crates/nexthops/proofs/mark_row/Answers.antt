@@ -1,6 +1,5 @@
 use Rattle.routes.proofs.Lanes.{sum_fits}
 use Rattle.nexthops.proofs.Ties.{mark_done, mark_more, mark_none}
-use Prim.Native.Nat.{◌-◌}
 use borrow.Author.Rules.{rules}
 use Rattle.nexthops.proofs.mark_row.Goals as goal
 

@@ -1,9 +1,5 @@
 use borrow.Author.Rules.{rules}
 use Rattle.routes.proofs.Steps.{begun, unit_more, unit_none}
-use Prim.Native.Nat.{◌-◌}
-use Rattle.routes.proofs.begin.Reads as reads
-use Rattle.routes.proofs.begin.Lts as lts
-use Rattle.routes.proofs.unit.Reads as unit-reads
 use Rattle.routes.proofs.begin.Goals as goal
 
 pub loop-u-init : goal.loop-u-init

@@ -4,9 +4,6 @@ use Rattle.routes.specs.Lanes.{unit_row}
 use lib.ListN.{get_or, length}
 use mathlib.Core.Path.{◌≡◌}
 use Prim.Native.Nat.{◌-◌, ◌<◌}
-use Rattle.routes.proofs.begin.Reads as reads
-use Rattle.routes.proofs.begin.Lts as lts
-use Rattle.routes.proofs.unit.Reads as unit-reads
 use Rattle.routes.proofs.begin.Given as goal
 
 abbrev pub invariant-loop-u : goal.invariant-loop-u

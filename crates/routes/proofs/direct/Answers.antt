@@ -1,7 +1,4 @@
 use Rattle.routes.proofs.Steps.{direct_is, cost_small, spot_low}
-use Rattle.routes.proofs.direct.Reads as reads
-use Rattle.routes.proofs.direct.Lts as lts
-use Rattle.routes.proofs.lesser.Reads as lesser-reads
 use Rattle.routes.proofs.direct.Goals as goal
 
 pub lesser-requires : goal.lesser-requires

@@ -1,10 +1,4 @@
 use Rattle.routes.proofs.Steps.{linked, low_once, spot, spot_back}
-use Rattle.routes.proofs.direct_link.Reads as reads
-use Rattle.routes.proofs.direct_link.Lts as lts
-use Rattle.routes.proofs.cost.Reads as cost-reads
-use Rattle.routes.proofs.direct.Reads as direct-reads
-use Rattle.routes.proofs.end.Reads as end_reads
-use Rattle.routes.proofs.wide.Reads as wide-reads
 use Rattle.routes.proofs.direct_link.Goals as goal
 
 pub direct-requires-clause-spot : goal.direct-requires-clause-spot

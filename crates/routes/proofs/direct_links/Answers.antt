@@ -1,9 +1,5 @@
 use borrow.Author.Rules.{rules}
 use Rattle.routes.proofs.Steps.{links_done, links_more, links_none, low_on, wired_on}
-use Prim.Native.Nat.{◌-◌}
-use Rattle.routes.proofs.direct_links.Reads as reads
-use Rattle.routes.proofs.direct_links.Lts as lts
-use Rattle.routes.proofs.direct_link.Reads as direct-link-reads
 use Rattle.routes.proofs.direct_links.Goals as goal
 
 pub loop-l-init : goal.loop-l-init

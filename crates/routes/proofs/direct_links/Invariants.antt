@@ -2,9 +2,6 @@ use lib.ListN.{length}
 use Rattle.routes.specs.Passes.{direct_links, net_of}
 use mathlib.Core.Path.{◌≡◌}
 use Prim.Native.Nat.{◌-◌, ◌≤◌}
-use Rattle.routes.proofs.direct_links.Reads as reads
-use Rattle.routes.proofs.direct_links.Lts as lts
-use Rattle.routes.proofs.direct_link.Reads as direct-link-reads
 use Rattle.routes.proofs.direct_links.Given as goal
 
 abbrev pub invariant-loop-l : goal.invariant-loop-l

@@ -1,9 +1,4 @@
 use Rattle.routes.proofs.Steps.{distances_made, units_are_low, units_wired, wired_few, few_linked, low_linked}
-use Rattle.routes.proofs.distances.Reads as reads
-use Rattle.routes.proofs.distances.Lts as lts
-use Rattle.routes.proofs.begin.Reads as begin-reads
-use Rattle.routes.proofs.direct_links.Reads as direct-links-reads
-use Rattle.routes.proofs.settle.Reads as settle-reads
 use Rattle.routes.proofs.distances.Goals as goal
 
 pub begin-requires : goal.begin-requires

@@ -1,7 +1,6 @@
 use Rattle.routes.proofs.Costs.{costs_more}
 use borrow.Author.Rules.{rules}
 use Rattle.routes.proofs.Filling.{fill_done, fill_none}
-use Prim.Native.Nat.{◌-◌}
 use Rattle.routes.proofs.fill_costs.Goals as goal
 
 pub loop-l-init : goal.loop-l-init

@@ -1,9 +1,5 @@
 use borrow.Author.Rules.{rules}
 use Rattle.routes.proofs.Lanes.{lanes_done, lanes_more, lanes_none, old_low, sum_low, sum_fits_lt}
-use Prim.Native.Nat.{◌-◌}
-use Rattle.routes.proofs.lower_lanes.Reads as reads
-use Rattle.routes.proofs.lower_lanes.Lts as lts
-use Rattle.routes.proofs.lesser.Reads as lesser-reads
 use Rattle.routes.proofs.lower_lanes.Goals as goal
 
 pub loop-t-init : goal.loop-t-init

@@ -1,9 +1,6 @@
 use Rattle.routes.specs.Lanes.{lanes}
 use mathlib.Core.Path.{◌≡◌}
 use Prim.Native.Nat.{◌-◌, ◌≤◌}
-use Rattle.routes.proofs.lower_lanes.Reads as reads
-use Rattle.routes.proofs.lower_lanes.Lts as lts
-use Rattle.routes.proofs.lesser.Reads as lesser-reads
 use Rattle.routes.proofs.lower_lanes.Given as goal
 
 abbrev pub invariant-loop-t : goal.invariant-loop-t

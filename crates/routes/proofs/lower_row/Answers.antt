@@ -1,8 +1,5 @@
 use Rattle.routes.proofs.Steps.{lowered}
 use Rattle.routes.proofs.Lanes.{low_row}
-use Rattle.routes.proofs.lower_row.Reads as reads
-use Rattle.routes.proofs.lower_row.Lts as lts
-use Rattle.routes.proofs.lower_lanes.Reads as lower-lanes-reads
 use Rattle.routes.proofs.lower_row.Goals as goal
 
 pub lower_lanes-requires-clause-low_row : goal.lower_lanes-requires-clause-low_row

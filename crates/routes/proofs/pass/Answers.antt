@@ -1,9 +1,5 @@
 use Rattle.routes.proofs.Steps.{pass_done, pass_low, pass_more, pass_none}
 use borrow.Author.Rules.{rules}
-use Prim.Native.Nat.{◌-◌}
-use Rattle.routes.proofs.pass.Reads as reads
-use Rattle.routes.proofs.pass.Lts as lts
-use Rattle.routes.proofs.through.Reads as through-reads
 use Rattle.routes.proofs.pass.Goals as goal
 
 pub loop-u-init : goal.loop-u-init

@@ -2,9 +2,6 @@ use Rattle.routes.specs.Passes.{pass}
 use lib.ListN.{length}
 use mathlib.Core.Path.{◌≡◌}
 use Prim.Native.Nat.{◌-◌, ◌≤◌}
-use Rattle.routes.proofs.pass.Reads as reads
-use Rattle.routes.proofs.pass.Lts as lts
-use Rattle.routes.proofs.through.Reads as through-reads
 use Rattle.routes.proofs.pass.Given as goal
 
 abbrev pub invariant-loop-u : goal.invariant-loop-u

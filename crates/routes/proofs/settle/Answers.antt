@@ -1,9 +1,5 @@
 use Rattle.routes.proofs.Steps.{passes_done, passes_low, passes_more, passes_none}
 use borrow.Author.Rules.{rules}
-use Prim.Native.Nat.{◌-◌}
-use Rattle.routes.proofs.settle.Reads as reads
-use Rattle.routes.proofs.settle.Lts as lts
-use Rattle.routes.proofs.pass.Reads as pass-reads
 use Rattle.routes.proofs.settle.Goals as goal
 
 pub loop-v-init : goal.loop-v-init

@@ -2,9 +2,6 @@ use Rattle.routes.specs.Passes.{passes}
 use lib.ListN.{length}
 use mathlib.Core.Path.{◌≡◌}
 use Prim.Native.Nat.{◌-◌, ◌≤◌}
-use Rattle.routes.proofs.settle.Reads as reads
-use Rattle.routes.proofs.settle.Lts as lts
-use Rattle.routes.proofs.pass.Reads as pass-reads
 use Rattle.routes.proofs.settle.Given as goal
 
 abbrev pub invariant-loop-v : goal.invariant-loop-v

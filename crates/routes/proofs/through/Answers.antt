@@ -1,7 +1,4 @@
 use Rattle.routes.proofs.Steps.{through_is, through_none}
-use Rattle.routes.proofs.through.Reads as reads
-use Rattle.routes.proofs.through.Lts as lts
-use Rattle.routes.proofs.lower_row.Reads as lower-row-reads
 use Rattle.routes.proofs.through.Goals as goal
 
 pub returns-then-c-lt-FAR : goal.returns-then-c-lt-FAR

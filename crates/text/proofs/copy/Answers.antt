@@ -1,4 +1,3 @@
-use Prim.Native.Nat.{◌-◌}
 use borrow.Author.Rules.{rules}
 use Rattle.text.proofs.Texts.{texts}
 use Rattle.text.proofs.copy.Goals as goal

@@ -1,4 +1,3 @@
-use Prim.Native.Nat.{◌-◌}
 use Rattle.travel.proofs.Trips.{travelling}
 use Rattle.travel.proofs.go_on.Goals as goal
 

@@ -1,4 +1,3 @@
-use Prim.Native.Nat.{◌-◌}
 use Rattle.layout.proofs.Records.{records}
 use Rattle.layout.proofs.record.homes.Goals as goal
 
