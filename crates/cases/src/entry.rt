@@ -13,6 +13,8 @@ use listing::lists_into;
 use phrases::show;
 use recordrules::counts;
 use rules::Network;
+use std::io;
+use std::io::Write;
 use std::num::wrapping_add_usize;
 use wording::asked::{
     BUILD, READ, REPORT, REPORTED, RUN, STEP, SWEEP, TABLES, TAKE, WRITE, after, entry, failed,
@@ -35,16 +37,24 @@ fn take(file: &[u8]) -> u64 {
 // ---- report FILE
 
 // The report has lines of its own, below the name's.
-fn report(file: &[u8]) {
-    show::put(b':');
-    show::put(b'\n');
-    printer::show(file);
+fn report<W: Write>(out: &mut W, file: &[u8]) -> io::Result<()> {
+    show::put(out, b':')?;
+    show::put(out, b'\n')?;
+    printer::show(out, file)
 }
 
 // ---- read FILE A B WEIGHTS HOMES ROWS
 
 // Into lists of these lengths, each entry 7.
-fn read_into(file: &[u8], a: usize, b: usize, weights: usize, homes: usize, rows: usize)
+fn read_into<W: Write>(
+    out: &mut W,
+    file: &[u8],
+    a: usize,
+    b: usize,
+    weights: usize,
+    homes: usize,
+    rows: usize,
+) -> io::Result<()>
     requires { (a ≤ 255) × ((b ≤ 255) × ((weights ≤ 8191) × ((homes ≤ 255) × (rows ≤ 8191)))) }
 {
     let mut x = room::bytes();
@@ -52,99 +62,109 @@ fn read_into(file: &[u8], a: usize, b: usize, weights: usize, homes: usize, rows
     let mut w = room::wide();
     let mut h = room::bytes();
     let mut r = room::wide();
-    show::read(burnishpeg_read(
+    let word = burnishpeg_read(
         file,
         &mut x[0..a],
         &mut y[0..b],
         &mut w[0..weights],
         &mut h[0..homes],
         &mut r[0..rows],
-    ));
-    show::list(show::ENDS_A, &x, a);
-    show::list(show::ENDS_B, &y, b);
-    show::wide_list(show::WEIGHTS, &w, weights);
-    show::list(show::HOMES, &h, homes);
-    show::wide_list(show::ROWS, &r, rows);
+    );
+    show::read(out, word)?;
+    show::list(out, show::ENDS_A, &x, a)?;
+    show::list(out, show::ENDS_B, &y, b)?;
+    show::wide_list(out, show::WEIGHTS, &w, weights)?;
+    show::list(out, show::HOMES, &h, homes)?;
+    show::wide_list(out, show::ROWS, &r, rows)
 }
 
-fn read(words: &[u8], file: &[u8]) {
+fn read<W: Write>(out: &mut W, words: &[u8], file: &[u8]) -> io::Result<()> {
     read_into(
+        out,
         file,
         up_to(words, 2, 255),
         up_to(words, 3, 255),
         up_to(words, 4, 8191),
         up_to(words, 5, 255),
         up_to(words, 6, 8191),
-    );
+    )
 }
 
 // ---- build FILE CAP ROOM
 
 // A row's first weight has its low byte one byte after the head.
-fn rows(set: &[u8], net: Network) {
+fn rows<W: Write>(out: &mut W, set: &[u8], net: Network) -> io::Result<()> {
     let k = net.k;
     let mut j: u8 = 0;
     while j < k {
         let first = file::row_place(net, j as usize) + Network::ROW_HEAD + 1;
         show::numbers(
+            out,
             show::ROW,
             set,
             first,
             Network::WEIGHT,
             65535,
             net.m as usize,
-        );
+        )?;
         j += 1;
     }
+    Ok(())
 }
 
 // The set at the front of a lent file: its homes, each a record's last byte, and its rows; whether it is taken in; the byte that follows.
-fn built(file: &[u8], long: usize) {
+fn built<W: Write>(out: &mut W, file: &[u8], long: usize) -> io::Result<()> {
     let net = file::header(file);
     let first = file::home_place(net, 0) + 3;
-    show::next(long as u64);
-    show::say(show::BYTES);
+    show::next(out, long as u64)?;
+    show::say(out, show::BYTES)?;
     show::numbers(
+        out,
         show::HOMES,
         file,
         first,
         Network::HOME,
         255,
         net.home_records(),
-    );
-    rows(file, net);
-    show::say(show::READ_BACK);
-    show::verdict(take(part(file, 0, long)));
-    show::numbers(show::BYTE_AFTER, file, long, 1, 255, 1);
+    )?;
+    rows(out, file, net)?;
+    show::say(out, show::READ_BACK)?;
+    show::verdict(out, take(part(file, 0, long)))?;
+    show::numbers(out, show::BYTE_AFTER, file, long, 1, 255, 1)
 }
 
 // A refusal, and the first byte lent, which stays.
-fn refused(word: u64, lent: &[u8]) {
-    show::refused(word);
-    show::numbers(show::FIRST_BYTE, lent, 0, 1, 255, 1);
+fn refused<W: Write>(out: &mut W, word: u64, lent: &[u8]) -> io::Result<()> {
+    show::refused(out, word)?;
+    show::numbers(out, show::FIRST_BYTE, lent, 0, 1, 255, 1)
 }
 
-fn build_answer(word: u64, room: &[u8; 16384], long: usize) {
+fn build_answer<W: Write>(
+    out: &mut W,
+    word: u64,
+    room: &[u8; 16384],
+    long: usize,
+) -> io::Result<()> {
     let lent = part(room, 0, long);
-    show::put(b':');
+    show::put(out, b':')?;
     match word >> 63 {
-        0 => built(lent, word as usize),
-        _ => refused(word, lent),
+        0 => built(out, lent, word as usize),
+        _ => refused(out, word, lent),
     }
 }
 
-fn build(words: &[u8], graph: &[u8]) {
+fn build<W: Write>(out: &mut W, words: &[u8], graph: &[u8]) -> io::Result<()> {
     let cap = up_to(words, 2, 255) as u8;
     let long = up_to(words, 3, 16384);
     let mut file = room::set();
     let word = burnishpeg_build(graph, cap, &mut file[0..long]);
-    build_answer(word, &file, long);
+    build_answer(out, word, &file, long)
 }
 
 // ---- write FILE ROOM
 
 // The lists as they stand in the file's bytes, by the counts of its header, written into a lent file.
-fn write_lists(file: &[u8], net: Network, long: usize)
+fn write_lists<W: Write>(out: &mut W, file: &[u8], net: Network, long: usize) -> io::Result<()>
     requires { (need_counts net 0 ≡ 0) × (long ≤ 16384) }
 {
     let mut a = room::bytes();
@@ -174,65 +194,75 @@ fn write_lists(file: &[u8], net: Network, long: usize)
         &rows,
         &mut lent[0..long],
     );
-    build_answer(word, &lent, long);
+    build_answer(out, word, &lent, long)
 }
 
 // Counts outside their ranges have no lists here.
-fn write(words: &[u8], file: &[u8]) {
+fn write<W: Write>(out: &mut W, words: &[u8], file: &[u8]) -> io::Result<()> {
     let net = file::header(file);
     match counts(net, 0) {
-        0 => write_lists(file, net, up_to(words, 2, 16384)),
-        _ => show::say(show::UNCLEAR),
+        0 => write_lists(out, file, net, up_to(words, 2, 16384)),
+        _ => show::say(out, show::UNCLEAR),
     }
 }
 
 // ---- tables FILE ROOM, reported FILE ROOM
 
 // So many bytes, and the one after them.
-fn length(word: u64, lent: &[u8]) {
-    show::next(word);
-    show::say(show::BYTES);
-    show::numbers(show::BYTE_AFTER, lent, word as usize, 1, 255, 1);
+fn length<W: Write>(out: &mut W, word: u64, lent: &[u8]) -> io::Result<()> {
+    show::next(out, word)?;
+    show::say(out, show::BYTES)?;
+    show::numbers(out, show::BYTE_AFTER, lent, word as usize, 1, 255, 1)
 }
 
-fn tables_answer(word: u64, room: &[u8; 65536], long: usize) {
+fn tables_answer<W: Write>(
+    out: &mut W,
+    word: u64,
+    room: &[u8; 65536],
+    long: usize,
+) -> io::Result<()> {
     let lent = part(room, 0, long);
-    show::put(b':');
+    show::put(out, b':')?;
     match word >> 63 {
         0 => {
-            length(word, lent);
-            show::numbers(show::TABLES, lent, 0, 1, 255, word as usize);
+            length(out, word, lent)?;
+            show::numbers(out, show::TABLES, lent, 0, 1, 255, word as usize)
         }
-        _ => refused(word, lent),
+        _ => refused(out, word, lent),
     }
 }
 
-fn tables(words: &[u8], set: &[u8]) {
+fn tables<W: Write>(out: &mut W, words: &[u8], set: &[u8]) -> io::Result<()> {
     let long = up_to(words, 2, 65536);
     let mut lent = room::large();
     let word = burnishpeg_tables(set, &mut lent[0..long]);
-    tables_answer(word, &lent, long);
+    tables_answer(out, word, &lent, long)
 }
 
-fn text_answer(word: u64, room: &[u8; 65536], long: usize) {
+fn text_answer<W: Write>(
+    out: &mut W,
+    word: u64,
+    room: &[u8; 65536],
+    long: usize,
+) -> io::Result<()> {
     let lent = part(room, 0, long);
-    show::put(b':');
+    show::put(out, b':')?;
     match word >> 63 {
-        0 => length(word, lent),
-        _ => refused(word, lent),
+        0 => length(out, word, lent),
+        _ => refused(out, word, lent),
     }
 }
 
-fn reported(words: &[u8], set: &[u8]) {
+fn reported<W: Write>(out: &mut W, words: &[u8], set: &[u8]) -> io::Result<()> {
     let long = up_to(words, 2, 65536);
     let mut lent = room::large();
     let word = burnishpeg_report(set, &mut lent[0..long]);
-    text_answer(word, &lent, long);
+    text_answer(out, word, &lent, long)
 }
 
 // ---- run FILE SOURCE DESTINATION FAILURE, and then TABLES TRAIL or nothing: a number that is not there is more than the room
 
-fn run_case(words: &[u8], set: &[u8]) {
+fn run_case<W: Write>(out: &mut W, words: &[u8], set: &[u8]) -> io::Result<()> {
     let down = kind(words);
     let which = least(failed(words, down), 65535) as u16;
     let source = up_to(words, 2, 255) as u8;
@@ -240,19 +270,30 @@ fn run_case(words: &[u8], set: &[u8]) {
     let next = after(down);
     let tables = number(words, next);
     let trail = number(words, wrapping_add_usize(next, 1));
-    run(set, source, destination, down, which, tables, trail, true);
+    run(
+        out,
+        set,
+        source,
+        destination,
+        down,
+        which,
+        tables,
+        trail,
+        true,
+    )?;
+    Ok(())
 }
 
 // ---- step FILE PLACE DESTINATION FAILURE TOPOLOGY TABLES ENTRY: by lent tables of so many bytes, each the same entry
 
-fn step(words: &[u8], set: &[u8]) {
+fn step<W: Write>(out: &mut W, words: &[u8], set: &[u8]) -> io::Result<()> {
     let down = kind(words);
     let next = after(down);
     let topology = up_to(words, next, 255) as u8;
     let long = up_to(words, wrapping_add_usize(next, 1), 65536);
     let entry = up_to(words, wrapping_add_usize(next, 2), 255) as u8;
     let tables = [entry; 65536];
-    show::stepped(burnishpeg_step(
+    let word = burnishpeg_step(
         set,
         &tables[0..long],
         up_to(words, 2, 255) as u8,
@@ -260,23 +301,24 @@ fn step(words: &[u8], set: &[u8]) {
         topology,
         down,
         least(failed(words, down), 65535) as u16,
-    ));
+    );
+    show::stepped(out, word)
 }
 
 // ---- all of them
 
-pub fn answer(words: &[u8], file: &[u8], long: usize) {
+pub fn answer<W: Write>(out: &mut W, words: &[u8], file: &[u8], long: usize) -> io::Result<()> {
     match entry(words, long) {
-        TAKE => show::verdict(take(file)),
-        SWEEP => sweep::all(file),
-        REPORT => report(file),
-        REPORTED => reported(words, file),
-        READ => read(words, file),
-        WRITE => write(words, file),
-        BUILD => build(words, file),
-        TABLES => tables(words, file),
-        RUN => run_case(words, file),
-        STEP => step(words, file),
-        _ => show::say(show::UNCLEAR),
+        TAKE => show::verdict(out, take(file)),
+        SWEEP => sweep::all(out, file),
+        REPORT => report(out, file),
+        REPORTED => reported(out, words, file),
+        READ => read(out, words, file),
+        WRITE => write(out, words, file),
+        BUILD => build(out, words, file),
+        TABLES => tables(out, words, file),
+        RUN => run_case(out, words, file),
+        STEP => step(out, words, file),
+        _ => show::say(out, show::UNCLEAR),
     }
 }

@@ -20,59 +20,93 @@
 // Any number of changes of the file may follow: `long N`, cut to N bytes or lengthened with zero bytes, and `byte P V`, byte P made
 // a V. To add a case, write its line in data/cases, its file into data/ where it needs a new one, and the lines that it must write
 // into stdout at the same place among the others. A line that is not understood says so, and so does one whose file is not there,
-// or that asks for more room than there is.
+// or that asks for more room than there is. Where an answer cannot be written, the program ends with that error.
 //
 // To add an entry: its name and its words in crates/wording/src/asked.rt, its function in entry.rt.
 #![tactic(auto)]
+
 mod entry; // entry.rt: what is asked of the file, one function for each entry
 mod file; // file.rt: the house file
 mod room; // room.rt: rooms that are lent
 mod run; // run.rt: one run
 mod sweep; // sweep.rt: every single failure of a set
 
+ghost use Rattle.std.specs.Prelude.{◌≤◌, length};
+
 use phrases::show;
 use rooms::file_and_one;
+use std::fs::File;
+use std::io;
+use std::io::{BufWriter, Read, Write};
+use std::rt::Files;
 use wording::asked::own_words;
 use wording::{NONE, byte, change, least, part, word};
 
 // ---- one case
 
-// The length of the file with this name, which is read into the room; NONE where there is no such file.
-fn stored(name: &[u8], room: &mut [u8]) -> usize {
-    let fd = os::open_read(name);
-    if fd < 0 {
-        return NONE;
+// How many bytes are read: as many as the room holds, or as the file has. A read that fails ends the file there, so that the cases
+// after it are answered all the same.
+fn read_in<R: Read>(file: &mut R, room: &mut [u8]) -> usize
+    ensures { result ≤ length room.new }
+{
+    let mut long = 0;
+    while long < room.len() {
+        match file.read(&mut room[long..]) {
+            Ok(0) | Err(_) => break,
+            Ok(more) => long += more,
+        }
     }
-    let long = io::read_full(fd, room);
-    libc::close(fd);
     long
 }
 
-fn changed(words: &[u8], file: &mut [u8]) {
-    let stored_long = stored(word(words, 1), file);
-    let long = change::all(words, own_words(words), file, stored_long);
-    entry::answer(words, part(file, 0, long), long);
+// The length of the file with this name, which is read into the room; NONE where there is no such file. A name is text in UTF-8.
+fn stored<R: Files>(files: &R, name: &[u8], room: &mut [u8]) -> usize {
+    let Ok(path) = str::from_utf8(name) else {
+        return NONE;
+    };
+    match File::open(files, path) {
+        Ok(mut file) => read_in(&mut file, room),
+        Err(_) => NONE,
+    }
 }
 
-fn case(words: &[u8]) {
+fn changed<R: Files, W: Write>(
+    files: &R,
+    out: &mut W,
+    words: &[u8],
+    file: &mut [u8],
+) -> io::Result<()> {
+    let stored_long = stored(files, word(words, 1), file);
+    let long = change::all(words, own_words(words), file, stored_long);
+    entry::answer(out, words, part(file, 0, long), long)
+}
+
+fn case<R: Files, W: Write>(files: &R, out: &mut W, words: &[u8]) -> io::Result<()> {
     let mut file = file_and_one();
-    changed(words, &mut file);
+    changed(files, out, words, &mut file)
 }
 
 // ---- the list
 
 // A line by its start, its last colon and its end. A line with no colon is all name.
-fn line(list: &[u8], start: usize, colon: usize, end: usize) {
+fn line<R: Files, W: Write>(
+    files: &R,
+    out: &mut W,
+    list: &[u8],
+    start: usize,
+    colon: usize,
+    end: usize,
+) -> io::Result<()> {
     match byte(list, start) {
-        0 | b'\n' | b'#' => (),
+        0 | b'\n' | b'#' => Ok(()),
         _ => {
-            show::text(part(list, start, least(colon, end)));
-            case(part(list, colon, end));
+            show::text(out, part(list, start, least(colon, end)))?;
+            case(files, out, part(list, colon, end))
         }
     }
 }
 
-fn each_line(list: &[u8]) {
+fn each_line<R: Files, W: Write>(files: &R, out: &mut W, list: &[u8]) -> io::Result<()> {
     let long = list.len();
     let mut start = 0;
     let mut colon = long;
@@ -80,7 +114,7 @@ fn each_line(list: &[u8]) {
     while i < long {
         match byte(list, i) {
             b'\n' => {
-                line(list, start, colon, i);
+                line(files, out, list, start, colon, i)?;
                 start = i + 1;
                 colon = long;
             }
@@ -89,11 +123,13 @@ fn each_line(list: &[u8]) {
         }
         i += 1;
     }
-    line(list, start, colon, long);
+    line(files, out, list, start, colon, long)
 }
 
-fn main() {
-    let mut list = io::large_buffer();
-    let long = stored(b"cases", &mut list);
-    each_line(part(&list, 0, long));
+fn main(rt: HostRuntime) -> io::Result<()> {
+    let mut list = room::zeros();
+    let long = stored(&rt, b"cases", &mut list);
+    let mut out = BufWriter::new(rt.alloc(), io::writer(&rt))?;
+    each_line(&rt, &mut out, part(&list, 0, long))?;
+    out.flush()
 }

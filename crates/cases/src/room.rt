@@ -32,3 +32,11 @@ pub fn large() -> [u8; 65536]
 {
     [238; 65536]
 }
+
+// For the list of the cases, or for the tables of a run.
+// Rules out: 34,816 bytes, none past the longest tables; 65,537 bytes.
+pub fn zeros() -> [u8; 65536]
+    ensures { 65536 ≡ length result }
+{
+    [0; 65536]
+}

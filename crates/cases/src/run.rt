@@ -2,10 +2,13 @@
 use crate::room;
 use burnishpeg::burnishpeg_run;
 use phrases::show;
+use std::io;
+use std::io::Write;
 use wording::least;
 
 // With so much room for the tables and for the trail, as far as there is. Its answer, which is written where it is to be shown.
-pub fn run(
+pub fn run<W: Write>(
+    out: &mut W,
     set: &[u8],
     source: u8,
     destination: u8,
@@ -14,8 +17,8 @@ pub fn run(
     tables: usize,
     trail: usize,
     shown: bool,
-) -> u64 {
-    let mut a = io::large_buffer();
+) -> io::Result<u64> {
+    let mut a = room::zeros();
     let mut b = room::bytes();
     let x = least(tables, 65536);
     let y = least(trail, 256);
@@ -29,7 +32,7 @@ pub fn run(
         &mut b[0..y],
     );
     if shown {
-        show::ended(word, &b);
+        show::ended(out, word, &b)?;
     }
-    word
+    Ok(word)
 }

@@ -3,12 +3,22 @@
 use crate::file::header;
 use crate::run::run;
 use phrases::tally;
+use std::io;
+use std::io::Write;
 use wording::least;
 
 // Run number i, where there is such a run, and the tally after it.
-fn tried(set: &[u8], n: u8, kind: u8, i: usize, sum: u64) -> u64 {
+fn tried<W: Write>(
+    out: &mut W,
+    set: &[u8],
+    n: u8,
+    kind: u8,
+    i: usize,
+    sum: u64,
+) -> io::Result<u64> {
     if tally::is_run(i, n) {
         let word = run(
+            out,
             set,
             tally::source(i),
             tally::destination(i),
@@ -17,29 +27,37 @@ fn tried(set: &[u8], n: u8, kind: u8, i: usize, sum: u64) -> u64 {
             65536,
             256,
             false,
-        );
-        tally::look(word, kind, i, n);
-        return tally::counted(sum, word);
+        )?;
+        tally::look(out, word, kind, i, n)?;
+        return Ok(tally::counted(sum, word));
     }
-    sum
+    Ok(sum)
 }
 
 // With each of so many links or nodes failed, or with nothing, once.
-fn every(set: &[u8], n: u8, kind: u8, count: usize, before: u64) -> u64 {
+fn every<W: Write>(
+    out: &mut W,
+    set: &[u8],
+    n: u8,
+    kind: u8,
+    count: usize,
+    before: u64,
+) -> io::Result<u64> {
     let most = 1024 * least(count, 65535);
     let mut sum = before;
     let mut i = 0;
     while i < most {
-        sum = tried(set, n, kind, i, sum);
+        sum = tried(out, set, n, kind, i, sum)?;
         i += 1;
     }
-    sum
+    Ok(sum)
 }
 
-pub fn all(set: &[u8]) {
+pub fn all<W: Write>(out: &mut W, set: &[u8]) -> io::Result<()> {
     let net = header(set);
     let n = net.n;
-    let up = every(set, n, 0, 1, 0);
-    let links = every(set, n, 1, net.m as usize, up);
-    tally::shown(every(set, n, 2, n as usize, links));
+    let up = every(out, set, n, 0, 1, 0)?;
+    let links = every(out, set, n, 1, net.m as usize, up)?;
+    let nodes = every(out, set, n, 2, n as usize, links)?;
+    tally::shown(out, nodes)
 }

@@ -1,22 +1,58 @@
-// What the programs share: a number among the arguments, and the line of a refusal. What a text means as a number is promised whole.
-// What is read from the arguments, and what is written, no contract can say.
+// What the programs share: a number among the arguments, the line of a refusal, and a file read into room that is lent. What a text means
+// as a number is promised whole. What the system gives as arguments and input, and what it does with what is written, no contract can say.
 #![tactic(auto)]
+
 mod number; // number.rt: what digits mean
 
+ghost use Rattle.std.specs.Prelude.{◌≤◌, length, IfOk};
+
 pub use number::{Number, number_in};
+use std::env::{Env, FillError};
+use std::io;
+use std::io::{ErrorKind, Read, Write};
 
 // Argument i as a number; one that is missing, or too long for its room, is none. The program's own name is argument 0.
-pub fn argument(i: usize) -> Number {
+pub fn argument<E: Env>(environment: &E, i: usize) -> Number {
     let mut text = [0u8; 8];
-    let long = os::arg(i, &mut text);
+    let long = environment.arg(i, &mut text).unwrap_or(0);
     number_in(&text[..long])
 }
 
-// The line of a refusal, to this descriptor.
-pub fn refused(fd: i32, number: u8, place: usize) {
-    io::write_all(fd, b"refused ");
-    io::print_decimal(fd, number as u64);
-    io::write_all(fd, b" at ");
-    io::print_decimal(fd, place as u64);
-    io::write_all(fd, b"\n");
+// Whether there is an argument i, of any length: room for none of its bytes tells an empty one, and one that is too long, from a missing one.
+fn is_given<E: Env>(environment: &E, i: usize) -> bool {
+    !matches!(environment.arg(i, &mut []), Err(FillError::NotPresent))
+}
+
+// How many arguments the program was started with, its own name among them.
+pub fn argument_count<E: Env>(environment: &E) -> usize {
+    for i in 0..usize::MAX {
+        if !is_given(environment, i) {
+            return i;
+        }
+    }
+    usize::MAX
+}
+
+// Reads until the room is full or the input ends, and returns how many bytes stand at the start of the room. Nothing past the room is read.
+pub fn read_full<R: Read>(input: &mut R, room: &mut [u8]) -> io::Result<usize>
+    ensures { IfOk result (λ long. long ≤ length room.new) }
+{
+    let mut long = 0;
+    for _ in 0..u64::MAX {
+        if long == room.len() {
+            break;
+        }
+        match input.read(&mut room[long..]) {
+            Ok(0) => break,
+            Ok(more) => long += more,
+            Err(error) if error.kind() == ErrorKind::Interrupted => {}
+            Err(error) => return Err(error),
+        }
+    }
+    Ok(long)
+}
+
+// The line of a refusal.
+pub fn refused<W: Write>(out: &mut W, number: u8, place: usize) -> io::Result<()> {
+    writeln!(out, "refused {number} at {place}")
 }

@@ -45,6 +45,7 @@ fn given(value: u16) -> Number
 // The number that the text writes; the empty text writes none.
 // Rules out: 255 for a number that is above 255, which is no number `no_number_read_as_255`; 0 for the empty text, which is no
 // number `nothing_taken_for_a_number`.
+#[tactic(auto, using(crate::proofs::Laws::in_none))]
 pub fn number_in(text: &[u8]) -> Number
     ensures { result ≡ number_in text.now }
 {

@@ -1,22 +1,22 @@
 // What is written: phrases, numbers and lists after a case's name. An answer is one word as the library packs it: in bit 63 whether
 // it is a refusal.
-use libc::STDOUT_FILENO;
 use slices::byte;
+use std::io;
+use std::io::Write;
 use std::num::{wrapping_add_usize, wrapping_sub_usize};
 use wording::{least, piece};
 
-pub fn text(s: &[u8]) {
-    io::write_all(STDOUT_FILENO, s);
+pub fn text<W: Write>(out: &mut W, s: &[u8]) -> io::Result<()> {
+    out.write_all(s)
 }
 
-pub fn put(x: u8) {
-    io::write_all(STDOUT_FILENO, &[x]);
+pub fn put<W: Write>(out: &mut W, x: u8) -> io::Result<()> {
+    out.write_all(&[x])
 }
 
 // A number after a space.
-pub fn next(x: u64) {
-    put(b' ');
-    io::print_decimal(STDOUT_FILENO, x);
+pub fn next<W: Write>(out: &mut W, x: u64) -> io::Result<()> {
+    write!(out, " {x}")
 }
 
 // ---- phrases, by their numbers in one text: a string for each where it is written would take longer to check. The first are how a
@@ -75,46 +75,44 @@ const MOVED: usize = 27;
 
 pub const TABLES: usize = 28;
 
-pub fn say(phrase: usize) {
-    text(piece(
-        b"| under way| delivered| dropped| refused| taken\n| at| bytes\n| hops| topology| kind | trail|\n  WRONG from| to|  ends a|  ends b|  weights|  homes|  rows|  row|  read back|  the byte after it|  first lent byte|, longest|, nothing|, link|, node|: not understood: an unknown word, no such file, or more room than there is\n| moved|  tables",
-        b'|',
-        phrase,
-    ));
+pub fn say<W: Write>(out: &mut W, phrase: usize) -> io::Result<()> {
+    let phrases =
+        b"| under way| delivered| dropped| refused| taken\n| at| bytes\n| hops| topology| kind | trail|\n  WRONG from| to|  ends a|  ends b|  weights|  homes|  rows|  row|  read back|  the byte after it|  first lent byte|, longest|, nothing|, link|, node|: not understood: an unknown word, no such file, or more room than there is\n| moved|  tables";
+    text(out, piece(phrases, b'|', phrase))
 }
 
 // ---- answers
 
 // A refusal's number stands from bit 32 on, and its place below.
-pub fn refused(word: u64) {
-    next((word >> 32) & 255);
-    say(AT);
-    next(word & 4294967295);
-    put(b'\n');
+pub fn refused<W: Write>(out: &mut W, word: u64) -> io::Result<()> {
+    next(out, (word >> 32) & 255)?;
+    say(out, AT)?;
+    next(out, word & 4294967295)?;
+    put(out, b'\n')
 }
 
-pub fn verdict(word: u64) {
-    put(b':');
+pub fn verdict<W: Write>(out: &mut W, word: u64) -> io::Result<()> {
+    put(out, b':')?;
     match word >> 63 {
-        0 => say(TAKEN),
-        _ => refused(word),
+        0 => say(out, TAKEN),
+        _ => refused(out, word),
     }
 }
 
 // n, m, k and wmax, of 8, 16, 8 and 16 bits.
-fn counts(word: u64) {
-    next(word & 255);
-    next((word >> 8) & 65535);
-    next((word >> 24) & 255);
-    next((word >> 32) & 65535);
-    put(b'\n');
+fn counts<W: Write>(out: &mut W, word: u64) -> io::Result<()> {
+    next(out, word & 255)?;
+    next(out, (word >> 8) & 65535)?;
+    next(out, (word >> 24) & 255)?;
+    next(out, (word >> 32) & 65535)?;
+    put(out, b'\n')
 }
 
-pub fn read(word: u64) {
-    put(b':');
+pub fn read<W: Write>(out: &mut W, word: u64) -> io::Result<()> {
+    put(out, b':')?;
     match word >> 63 {
-        0 => counts(word),
-        _ => refused(word),
+        0 => counts(out, word),
+        _ => refused(out, word),
     }
 }
 
@@ -127,58 +125,71 @@ fn two(file: &[u8], at: usize) -> u64 {
 
 // So many numbers of a file: the first's low byte stands at `from`, and each next one's a step on. The mask is 255 for a byte and
 // 65535 for two.
-pub fn numbers(title: usize, file: &[u8], from: usize, step: usize, mask: u64, count: usize) {
-    say(title);
+pub fn numbers<W: Write>(
+    out: &mut W,
+    title: usize,
+    file: &[u8],
+    from: usize,
+    step: usize,
+    mask: u64,
+    count: usize,
+) -> io::Result<()> {
+    say(out, title)?;
     let mut at = from;
     let mut i = 0;
     while i < count {
-        next(two(file, at) & mask);
+        next(out, two(file, at) & mask)?;
         at = wrapping_add_usize(at, step);
         i += 1;
     }
-    put(b'\n');
+    put(out, b'\n')
 }
 
-pub fn list(title: usize, list: &[u8; 256], count: usize) {
-    numbers(title, list, 0, 1, 255, count);
+pub fn list<W: Write>(out: &mut W, title: usize, list: &[u8; 256], count: usize) -> io::Result<()> {
+    numbers(out, title, list, 0, 1, 255, count)
 }
 
-fn next_wide(x: u16) {
-    next(x as u64);
+fn next_wide<W: Write>(out: &mut W, x: u16) -> io::Result<()> {
+    next(out, x as u64)
 }
 
-pub fn wide_list(title: usize, list: &[u16; 8192], count: usize) {
-    say(title);
+pub fn wide_list<W: Write>(
+    out: &mut W,
+    title: usize,
+    list: &[u16; 8192],
+    count: usize,
+) -> io::Result<()> {
+    say(out, title)?;
     let most = least(count, 8192);
     let mut i = 0;
     while i < most {
-        next_wide(list[i]);
+        next_wide(out, list[i])?;
         i += 1;
     }
-    put(b'\n');
+    put(out, b'\n')
 }
 
 // ---- runs
 
 // How it ended, its hops, its last topology and the letter of its change, 8 bits each. The nodes visited are one more than the hops.
-fn journey(word: u64, trail: &[u8; 256]) {
+fn journey<W: Write>(out: &mut W, word: u64, trail: &[u8; 256]) -> io::Result<()> {
     let hops = (word >> 8) % 256;
-    say((word % 256) as usize);
-    say(HOPS);
-    next(hops);
-    say(TOPOLOGY);
-    next((word >> 16) & 255);
-    say(KIND);
-    put(((word >> 24) % 256) as u8);
-    list(TRAIL, trail, 1 + hops as usize);
+    say(out, (word % 256) as usize)?;
+    say(out, HOPS)?;
+    next(out, hops)?;
+    say(out, TOPOLOGY)?;
+    next(out, (word >> 16) & 255)?;
+    say(out, KIND)?;
+    put(out, ((word >> 24) % 256) as u8)?;
+    list(out, TRAIL, trail, 1 + hops as usize)
 }
 
-pub fn ended(word: u64, trail: &[u8; 256]) {
+pub fn ended<W: Write>(out: &mut W, word: u64, trail: &[u8; 256]) -> io::Result<()> {
     match word >> 63 {
-        0 => journey(word, trail),
+        0 => journey(out, word, trail),
         _ => {
-            say(REFUSED);
-            refused(word);
+            say(out, REFUSED)?;
+            refused(out, word)
         }
     }
 }
@@ -186,26 +197,26 @@ pub fn ended(word: u64, trail: &[u8; 256]) {
 // ---- steps
 
 // How the packet stands, 0 where it moved; then the letter of its change, its place, destination and topology, 8 bits each.
-fn standing(word: u64) {
+fn standing<W: Write>(out: &mut W, word: u64) -> io::Result<()> {
     match word & 255 {
-        0 => say(MOVED),
-        _ => say((word % 256) as usize),
+        0 => say(out, MOVED)?,
+        _ => say(out, (word % 256) as usize)?,
     }
-    say(AT);
-    next((word >> 16) & 255);
-    say(TOPOLOGY);
-    next((word >> 32) & 255);
-    say(KIND);
-    put(((word >> 8) % 256) as u8);
-    put(b'\n');
+    say(out, AT)?;
+    next(out, (word >> 16) & 255)?;
+    say(out, TOPOLOGY)?;
+    next(out, (word >> 32) & 255)?;
+    say(out, KIND)?;
+    put(out, ((word >> 8) % 256) as u8)?;
+    put(out, b'\n')
 }
 
-pub fn stepped(word: u64) {
+pub fn stepped<W: Write>(out: &mut W, word: u64) -> io::Result<()> {
     match word >> 63 {
-        0 => standing(word),
+        0 => standing(out, word),
         _ => {
-            say(REFUSED);
-            refused(word);
+            say(out, REFUSED)?;
+            refused(out, word)
         }
     }
 }

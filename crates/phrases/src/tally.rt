@@ -1,5 +1,7 @@
 // What a sweep counts: the runs by their numbers, how each must end, and the tally.
 use crate::show;
+use std::io;
+use std::io::Write;
 use std::num::{wrapping_add_u64, wrapping_add_usize};
 
 // ---- the run with number i: from bit 10 on the failed link or node, then 5 bits for the source and 5 for the destination
@@ -62,23 +64,23 @@ fn expected(kind: u8, i: usize) -> u64 {
     }
 }
 
-fn wrong(kind: u8, i: usize) {
-    show::say(show::WRONG);
-    show::next(source(i) as u64);
-    show::say(show::TO);
-    show::next(destination(i) as u64);
-    show::say(wrapping_add_usize(show::DOWN, kind as usize));
-    show::next(failed(i) as u64);
+fn wrong<W: Write>(out: &mut W, kind: u8, i: usize) -> io::Result<()> {
+    show::say(out, show::WRONG)?;
+    show::next(out, source(i) as u64)?;
+    show::say(out, show::TO)?;
+    show::next(out, destination(i) as u64)?;
+    show::say(out, wrapping_add_usize(show::DOWN, kind as usize))?;
+    show::next(out, failed(i) as u64)
 }
 
 // Says so where a run did not end as it must, or made more than 2n - 3 hops.
-pub fn look(word: u64, kind: u8, i: usize, n: u8) {
+pub fn look<W: Write>(out: &mut W, word: u64, kind: u8, i: usize, n: u8) -> io::Result<()> {
     if how(word) == expected(kind, i) {
         if ((word >> 8) % 256) + 3 <= 2 * (n as u64) {
-            return;
+            return Ok(());
         }
     }
-    wrong(kind, i);
+    wrong(out, kind, i)
 }
 
 // ---- the tally is one number: 18 bits for the runs delivered, 18 for those dropped, 18 for those refused, and then the most hops
@@ -108,18 +110,18 @@ pub fn counted(tally: u64, word: u64) -> u64 {
     }
 }
 
-pub fn shown(tally: u64) {
-    show::put(b':');
-    show::next(tally % ONE_DROPPED);
-    show::say(show::DELIVERED);
-    show::put(b',');
-    show::next(tally % ONE_REFUSED / ONE_DROPPED);
-    show::say(show::DROPPED);
-    show::put(b',');
-    show::next(tally % ONE_HOP / ONE_REFUSED);
-    show::say(show::REFUSED);
-    show::say(show::LONGEST);
-    show::next(tally / ONE_HOP);
-    show::say(show::HOPS);
-    show::put(b'\n');
+pub fn shown<W: Write>(out: &mut W, tally: u64) -> io::Result<()> {
+    show::put(out, b':')?;
+    show::next(out, tally % ONE_DROPPED)?;
+    show::say(out, show::DELIVERED)?;
+    show::put(out, b',')?;
+    show::next(out, tally % ONE_REFUSED / ONE_DROPPED)?;
+    show::say(out, show::DROPPED)?;
+    show::put(out, b',')?;
+    show::next(out, tally % ONE_HOP / ONE_REFUSED)?;
+    show::say(out, show::REFUSED)?;
+    show::say(out, show::LONGEST)?;
+    show::next(out, tally / ONE_HOP)?;
+    show::say(out, show::HOPS)?;
+    show::put(out, b'\n')
 }

@@ -2,30 +2,39 @@
 // argument, or else the graph's own count of nodes, which always suffices. A refusal goes to standard error, and nothing to
 // standard output.
 #![tactic(auto)]
+
 mod argument; // argument.rt: the cap that is asked for
 
 use argument::{Asked, Cap};
-use console::refused;
-use libc::{STDERR_FILENO, STDIN_FILENO, STDOUT_FILENO};
+use console::{read_full, refused};
 use rules::{LengthAnswer, Network};
+use std::io;
+use std::io::Write;
 
-fn write_front(file: &[u8], long: usize) {
+fn write_front<W: Write>(out: &mut W, file: &[u8], long: usize) -> io::Result<()> {
     if long <= file.len() {
-        io::write_all(STDOUT_FILENO, &file[..long]);
+        out.write_all(&file[..long])?;
     }
+    Ok(())
 }
 
-fn build_into(graph: &[u8], cap: u8, file: &mut [u8]) {
+fn build_into<W: Write, E: Write>(
+    out: &mut W,
+    errors: &mut E,
+    graph: &[u8],
+    cap: u8,
+    file: &mut [u8],
+) -> io::Result<()> {
     let r = builder::build(graph, cap, file);
     match r {
-        LengthAnswer::Length(long) => write_front(file, long),
-        LengthAnswer::Refused { number, place } => refused(STDERR_FILENO, number, place),
+        LengthAnswer::Length(long) => write_front(out, file, long),
+        LengthAnswer::Refused { number, place } => refused(errors, number, place),
     }
 }
 
-fn build(graph: &[u8], cap: u8) {
+fn build<W: Write, E: Write>(out: &mut W, errors: &mut E, graph: &[u8], cap: u8) -> io::Result<()> {
     let mut file = rooms::file_and_one();
-    build_into(graph, cap, &mut file);
+    build_into(out, errors, graph, cap, &mut file)
 }
 
 // The graph's count of nodes, or the largest cap where it is out of range.
@@ -40,23 +49,23 @@ fn own_cap(graph: &[u8]) -> u8 {
     n
 }
 
-fn plan(graph: &[u8], cap: Cap) {
+fn plan<W: Write, E: Write>(out: &mut W, errors: &mut E, graph: &[u8], cap: Cap) -> io::Result<()> {
     match cap {
-        Cap::Own => build(graph, own_cap(graph)),
-        Cap::Given(most) => build(graph, most),
+        Cap::Own => build(out, errors, graph, own_cap(graph)),
+        Cap::Given(most) => build(out, errors, graph, most),
     }
 }
 
-fn read_and_plan(cap: Cap) {
+fn read_and_plan(rt: &HostRuntime, cap: Cap) -> io::Result<()> {
     let mut graph = rooms::file_and_one();
-    let long = io::read_full(STDIN_FILENO, &mut graph);
-    plan(&graph[..long], cap);
+    let long = read_full(&mut rt.stdin(), &mut graph)?;
+    plan(&mut rt.stdout(), &mut rt.stderr(), &graph[..long], cap)
 }
 
-fn main() {
-    let asked = argument::read();
+fn main(rt: HostRuntime) -> io::Result<()> {
+    let asked = argument::read(&rt);
     match asked {
-        Asked::Clear(cap) => read_and_plan(cap),
-        Asked::Unclear => argument::expected(),
+        Asked::Clear(cap) => read_and_plan(&rt, cap),
+        Asked::Unclear => argument::expected(&mut rt.stderr()),
     }
 }

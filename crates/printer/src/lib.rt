@@ -1,11 +1,13 @@
-// What the report programs share: a file's report, or the line of its refusal, to standard output. It is the text that
-// `report::print` promises; that it is written, no contract can say.
+// What the report programs share: a file's report, or the line of its refusal, written out. It is the text that `report::print` promises;
+// what the system does with what is written, no contract can say.
 #![tactic(auto)]
-use libc::STDOUT_FILENO;
+
+use std::io;
+use std::io::Write;
 
 // The report of a file, or the line of its refusal.
-pub fn show(file: &[u8]) {
+pub fn show<W: Write>(out: &mut W, file: &[u8]) -> io::Result<()> {
     let mut text = rooms::report();
     let long = report::print(file, &mut text);
-    io::write_all(STDOUT_FILENO, &text[..long]);
+    out.write_all(&text[..long])
 }

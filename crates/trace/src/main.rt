@@ -1,14 +1,16 @@
 // The trace: a set from standard input, and a question as arguments: what is down, a source and a destination. One line on standard
 // output for each hop of the packet, seen from the node that makes it, and a last line that says how the run ended; or the refusal.
 #![tactic(auto)]
+
 ghost use Rattle.std.specs.Prelude.{◌≡◌};
 ghost use Rattle.rules.specs.declared.Verdict.TheVariants.{Accepted};
 ghost use Rattle.rules.specs.Judgement.{judge};
 
-use console::refused;
+use console::{read_full, refused};
 use intake::take_set;
-use libc::{STDIN_FILENO, STDOUT_FILENO};
 use rules::{Failure, Journey, Packet, RunAnswer, Step, Verdict};
+use std::io;
+use std::io::Write;
 use tracing::question::{Asked, Down, Question};
 use tracing::{question, show};
 
@@ -23,33 +25,51 @@ fn one(file: &[u8], tables: &[u8], failure: Failure, p: Packet) -> Step
 }
 
 // One hop and its line; the packet after it.
-fn seen(file: &[u8], tables: &[u8], failure: Failure, p: Packet) -> Packet
+fn seen<W: Write>(
+    out: &mut W,
+    file: &[u8],
+    tables: &[u8],
+    failure: Failure,
+    p: Packet,
+) -> io::Result<Packet>
     requires { judge file.now ≡ Accepted }
 {
     let step = one(file, tables, failure, p);
     match step {
         Step::Moved(q, kind) => {
-            show::hop(p, q, kind);
-            q
+            show::hop(out, p, q, kind)?;
+            Ok(q)
         }
-        Step::Delivered(q) => q,
-        Step::Dropped(q) => q,
+        Step::Delivered(q) => Ok(q),
+        Step::Dropped(q) => Ok(q),
     }
 }
 
-fn hops(file: &[u8], tables: &[u8], failure: Failure, start: Packet, count: u8) -> Packet
+fn hops<W: Write>(
+    out: &mut W,
+    file: &[u8],
+    tables: &[u8],
+    failure: Failure,
+    start: Packet,
+    count: u8,
+) -> io::Result<Packet>
     requires { judge file.now ≡ Accepted }
 {
     let mut p = start;
-    let mut i: u8 = 0;
-    while i < count {
-        p = seen(file, tables, failure, p);
-        i += 1;
+    for _ in 0..count {
+        p = seen(out, file, tables, failure, p)?;
     }
-    p
+    Ok(p)
 }
 
-fn ended(file: &[u8], tables: &[u8], failure: Failure, q: Question, j: Journey)
+fn ended<W: Write>(
+    out: &mut W,
+    file: &[u8],
+    tables: &[u8],
+    failure: Failure,
+    q: Question,
+    j: Journey,
+) -> io::Result<()>
     requires { judge file.now ≡ Accepted }
 {
     let start = Packet {
@@ -57,73 +77,79 @@ fn ended(file: &[u8], tables: &[u8], failure: Failure, q: Question, j: Journey)
         destination: q.destination,
         topology: 0,
     };
-    let p = hops(file, tables, failure, start, j.hops);
-    show::end(j, p.place);
+    let p = hops(out, file, tables, failure, start, j.hops)?;
+    show::end(out, j, p.place)
 }
 
 // ---- the run
 
-fn run_into(file: &[u8], q: Question, failure: Failure, tables: &mut [u8], trail: &mut [u8])
+fn run_into<W: Write>(
+    out: &mut W,
+    file: &[u8],
+    q: Question,
+    failure: Failure,
+    tables: &mut [u8],
+    trail: &mut [u8],
+) -> io::Result<()>
     requires { judge file.now ≡ Accepted }
 {
     let r = forwarding::run(file, q.source, q.destination, failure, tables, trail);
     match r {
-        RunAnswer::Ended(j) => ended(file, tables, failure, q, j),
-        RunAnswer::Refused { number, place } => refused(STDOUT_FILENO, number, place),
+        RunAnswer::Ended(j) => ended(out, file, tables, failure, q, j),
+        RunAnswer::Refused { number, place } => refused(out, number, place),
     }
 }
 
-fn run(file: &[u8], q: Question, failure: Failure)
+fn run<W: Write>(out: &mut W, file: &[u8], q: Question, failure: Failure) -> io::Result<()>
     requires { judge file.now ≡ Accepted }
 {
     let mut tables = rooms::tables();
     let mut trail = rooms::trail();
-    run_into(file, q, failure, &mut tables, &mut trail);
+    run_into(out, file, q, failure, &mut tables, &mut trail)
 }
 
 // The failed link by its two ends.
-fn run_link(file: &[u8], q: Question, a: u8, b: u8)
+fn run_link<W: Write>(out: &mut W, file: &[u8], q: Question, a: u8, b: u8) -> io::Result<()>
     requires { judge file.now ≡ Accepted }
 {
     let net = layout::header(file);
     let l = linkstate::link_between(file, net, a, b);
     if l < net.m {
-        run(file, q, Failure::Link(l));
-        return;
+        return run(out, file, q, Failure::Link(l));
     }
-    show::no_link(a, b);
+    show::no_link(out, a, b)
 }
 
-fn answer(file: &[u8], q: Question)
+fn answer<W: Write>(out: &mut W, file: &[u8], q: Question) -> io::Result<()>
     requires { judge file.now ≡ Accepted }
 {
     let down = q.down;
     match down {
-        Down::Nothing => run(file, q, Failure::Nothing),
-        Down::Link(a, b) => run_link(file, q, a, b),
-        Down::Node(v) => run(file, q, Failure::Node(v)),
+        Down::Nothing => run(out, file, q, Failure::Nothing),
+        Down::Link(a, b) => run_link(out, file, q, a, b),
+        Down::Node(v) => run(out, file, q, Failure::Node(v)),
     }
 }
 
 // A file that is not taken in, or that is no set's, has no links to look for.
-fn taken_in(file: &[u8], q: Question) {
+fn taken_in<W: Write>(out: &mut W, file: &[u8], q: Question) -> io::Result<()> {
     let v = take_set(file);
     match v {
-        Verdict::Accepted => answer(file, q),
-        Verdict::Refused { number, place } => refused(STDOUT_FILENO, number, place),
+        Verdict::Accepted => answer(out, file, q),
+        Verdict::Refused { number, place } => refused(out, number, place),
     }
 }
 
-fn read_and_answer(q: Question) {
+fn read_and_answer(rt: &HostRuntime, q: Question) -> io::Result<()> {
     let mut file = rooms::file_and_one();
-    let long = io::read_full(STDIN_FILENO, &mut file);
-    taken_in(&file[..long], q);
+    let long = read_full(&mut rt.stdin(), &mut file)?;
+    taken_in(&mut rt.stdout(), &file[..long], q)
 }
 
-fn main() {
-    let asked = question::read();
+fn main(rt: HostRuntime) -> io::Result<()> {
+    let asked = question::read(&rt);
     match asked {
-        Asked::Clear(q) => read_and_answer(q),
-        Asked::Unclear => question::expected(),
+        Asked::Clear(q) => read_and_answer(&rt, q),
+        Asked::Unclear => question::expected(&mut rt.stderr()),
     }
 }

@@ -1,65 +1,44 @@
 // The lines that are written.
-use libc::STDOUT_FILENO;
 use rules::{Journey, Kind, Outcome, Packet};
+use std::io;
+use std::io::Write;
 
-fn text(s: &[u8]) {
-    io::write_all(STDOUT_FILENO, s);
+pub fn no_link<W: Write>(out: &mut W, a: u8, b: u8) -> io::Result<()> {
+    writeln!(out, "no link joins {a} and {b}")
 }
 
-fn number(x: u64) {
-    io::print_decimal(STDOUT_FILENO, x);
-}
-
-fn small(x: u8) {
-    number(x as u64);
-}
-
-pub fn no_link(a: u8, b: u8) {
-    text(b"no link joins ");
-    small(a);
-    text(b" and ");
-    small(b);
-    text(b"\n");
-}
-
-fn letter(k: Kind) {
+fn letter(k: Kind) -> &'static str {
     match k {
-        Kind::Unchanged => text(b"-"),
-        Kind::T => text(b"T"),
-        Kind::S => text(b"S"),
-        Kind::D => text(b"D"),
+        Kind::Unchanged => "-",
+        Kind::T => "T",
+        Kind::S => "S",
+        Kind::D => "D",
     }
 }
 
 // The hop from p to q.
-pub fn hop(p: Packet, q: Packet, kind: Kind) {
-    text(b"seen from ");
-    small(p.place);
-    text(b": kind ");
-    letter(kind);
-    text(b" topology ");
-    small(q.topology);
-    text(b" next ");
-    small(q.place);
-    text(b"\n");
+pub fn hop<W: Write>(out: &mut W, p: Packet, q: Packet, kind: Kind) -> io::Result<()> {
+    let letter = letter(kind);
+    writeln!(
+        out,
+        "seen from {}: kind {letter} topology {} next {}",
+        p.place, q.topology, q.place
+    )
 }
 
-fn outcome(o: Outcome) {
+fn outcome(o: Outcome) -> &'static str {
     match o {
-        Outcome::UnderWay => text(b"under way"),
-        Outcome::Delivered => text(b"delivered"),
-        Outcome::Dropped => text(b"dropped"),
+        Outcome::UnderWay => "under way",
+        Outcome::Delivered => "delivered",
+        Outcome::Dropped => "dropped",
     }
 }
 
-pub fn end(j: Journey, place: u8) {
-    let o = j.outcome;
-    outcome(o);
-    text(b" at ");
-    small(place);
-    text(b" after ");
-    small(j.hops);
-    text(b" hops in topology ");
-    small(j.topology);
-    text(b"\n");
+pub fn end<W: Write>(out: &mut W, j: Journey, place: u8) -> io::Result<()> {
+    let outcome = outcome(j.outcome);
+    writeln!(
+        out,
+        "{outcome} at {place} after {} hops in topology {}",
+        j.hops, j.topology
+    )
 }

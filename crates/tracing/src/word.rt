@@ -1,5 +1,6 @@
 // The words among the arguments.
 use slices::byte;
+use std::env::Env;
 
 fn same(text: &[u8], word: &[u8]) -> bool {
     let long = word.len();
@@ -17,8 +18,8 @@ fn same(text: &[u8], word: &[u8]) -> bool {
 }
 
 // Argument i is this word.
-pub fn is_word(i: usize, word: &[u8]) -> bool {
+pub fn is_word<E: Env>(environment: &E, i: usize, word: &[u8]) -> bool {
     let mut text = [0u8; 8];
-    let long = os::arg(i, &mut text);
+    let long = environment.arg(i, &mut text).unwrap_or(0);
     same(&text[..long], word)
 }

@@ -2,6 +2,7 @@
 // program `cases` does. Every function can be asked anything: what is not there is empty, 0 or NONE. So none promises more than
 // that it is safe and ends, but for the bounds that a room's parts need.
 #![tactic(auto)]
+
 pub mod asked; // asked.rt: what a case asks
 pub mod change; // change.rt: the changes that a case makes to its file
 
