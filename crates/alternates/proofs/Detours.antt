@@ -1,4 +1,5 @@
 -- The alternates by flags and words are the published ones, for the distances of an accepted set.
+use Rattle.std.specs.Prelude.{if◌then◌else◌}
 use Prim.Native.Nat.{ℕ, zero, suc, ◌≤◌, ◌<◌, min}
 use native.Mathlib.Nat.{eq-or-lt_of_le, le_of_suc-le-suc}
 use native.Mathlib.Omega.{arith}
@@ -10,7 +11,7 @@ use lib.Dec.{eqb}
 use lib.ListN.{length, get_or, replicate, length-set, length-replicate, get_or-replicate, get_or-eq_default}
 use lib.Seq.{get_or-set_same, get_or-set_other}
 use borrow.Author.Tests.{eqb-true, eqb-false, eq-eqb, ne_eqb, not-true}
-use Rattle.rules.specs.Basics.{if◌then◌else◌, lowest, least}
+use Rattle.rules.specs.Basics.{lowest, least}
 use Rattle.rules.specs.File.{Set}
 use Rattle.rules.specs.Isolation.{link_between, neighbours, home, isolated}
 use Rattle.rules.specs.Distance.{far, distances, distance, candidate, nearest, alternate}

@@ -1,4 +1,5 @@
 -- Laws of alternates, as the functions use them.
+use Rattle.std.specs.Prelude.{if◌then◌else◌}
 use Prim.Native.Nat.{ℕ, ◌+◌, ◌≤◌, ◌<◌, min}
 use native.Mathlib.Numerals.{add-one}
 use native.Mathlib.Omega.{arith}
@@ -10,7 +11,7 @@ use lib.ListN.{length, get_or, set, replicate, length-set}
 use lib.Seq.{get_or-set_same, get_or-set_other}
 use lib.Dec.{eqb}
 use borrow.Author.Tests.{eq-eqb, ne_eqb}
-use Rattle.rules.specs.Basics.{if◌then◌else◌, least}
+use Rattle.rules.specs.Basics.{least}
 use Rattle.rules.specs.Distance.{far}
 use Rattle.rules.proofs.Ground.Choices.{if_yes, if_no}
 use Rattle.routes.specs.Lanes.{column}
@@ -102,15 +103,15 @@ unfolding lesser_of
 lesser_none ok key best e = sym (if_no ok (min key best) best e)
 
 pub bit_here : (ok : Bool) (key best w s x : ℕ) → ok ≡ true → key ≡ best → s ≡ only x → x ≡ w → s ≡ near_bit ok key best w
-unfolding near_bit if◌then◌else◌
+unfolding near_bit
 bit_here ok key best w s x e h q g = q ∙ rw (e, eq-eqb key best h, g)
 
 pub bit_past : (ok : Bool) (key best w : ℕ) → ok ≡ true → (key ≡ best → ⊥) → 0 ≡ near_bit ok key best w
-unfolding near_bit if◌then◌else◌
+unfolding near_bit
 bit_past ok key best w e h = rw (e, ne_eqb key best h)
 
 pub bit_none : (ok : Bool) (key best w : ℕ) → ok ≡ false → 0 ≡ near_bit ok key best w
-unfolding near_bit if◌then◌else◌
+unfolding near_bit
 bit_none ok key best w e = rw e
 
 -- ---- `least_distance`, `nearest`

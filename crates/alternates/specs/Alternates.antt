@@ -1,6 +1,6 @@
 -- Alternates as the code finds them: flags of the neighbours with another home, the least distance of those, and the word of the nearest.
-use Rattle.std.specs.Prelude.{ℕ, zero, suc, ◌≤◌, ◌<◌, min, ◌≡◌, Bool, false, not, ◌&&◌, ◌||◌, List, [], length, get_or, set, replicate, eqb}
-use Rattle.rules.specs.Basics.{if◌then◌else◌, least}
+use Rattle.std.specs.Prelude.{ℕ, zero, suc, ◌≤◌, ◌<◌, min, ◌≡◌, Bool, false, not, ◌&&◌, ◌||◌, List, [], length, get_or, set, replicate, eqb, if◌then◌else◌}
+use Rattle.rules.specs.Basics.{least}
 use Rattle.rules.specs.Distance.{far}
 use Rattle.routes.specs.Lanes.{column}
 use Rattle.words.specs.Word.{either, lowest_in, only}

@@ -1,4 +1,5 @@
 -- Answers as words.
+use Rattle.std.specs.Prelude.{if◌then◌else◌}
 use mathlib.Core.Path.{◌≡◌, ◌∙◌}
 use mathlib.Core.List.{[], ◌∷◌}
 use Prim.Native.Nat.{ℕ, ◌+◌, ◌*◌, ◌≤◌, ◌<◌}
@@ -21,7 +22,6 @@ use Rattle.rules.specs.declared.StepAnswer.{StepAnswer}
 use Rattle.rules.specs.declared.StepAnswer.TheVariants as stepped
 use Rattle.rules.specs.declared.RunAnswer.{RunAnswer}
 use Rattle.rules.specs.declared.RunAnswer.TheVariants as ran
-use Rattle.rules.specs.Basics.{if◌then◌else◌}
 use Rattle.rules.specs.Forwarding.{letter}
 use Rattle.rules.specs.Answers.{header_values, read_tells, length_tells, outcome_value, packet_values, step_values, step_tells, journey_values, run_tells}
 use Rattle.answerwords.specs.Words.{refused_word, pack, word_of, by_length, by_read, by_step, by_run, failure_of}
@@ -107,23 +107,23 @@ run_refused a number place w e d = d ∙ rw e
 -- ---- what is down
 
 pub down_nothing : (kind failed : ℕ) → kind ≡ 0 → Nothing ≡ failure_of kind failed
-unfolding failure_of if◌then◌else◌
+unfolding failure_of
 down_nothing kind failed e = rw (eq-eqb kind 0 e)
 
 pub down_link : (kind failed : ℕ) → kind ≡ 1 → Link failed ≡ failure_of kind failed
-unfolding failure_of if◌then◌else◌
+unfolding failure_of
 down_link kind failed e = rw (ne_eqb kind 0 (λ z. omega arith), eq-eqb kind 1 e)
 
 pub down_unknown : (kind failed : ℕ) → (kind ≡ 0 → ⊥) → (kind ≡ 1 → ⊥) → (kind ≡ 2 → ⊥) → Link 65535 ≡ failure_of kind failed
-unfolding failure_of if◌then◌else◌
+unfolding failure_of
 down_unknown kind failed a b c = rw (ne_eqb kind 0 a, ne_eqb kind 1 b, ne_eqb kind 2 c)
 
 pub down_node : (kind failed : ℕ) → kind ≡ 2 → failed < 256 → Node failed ≡ failure_of kind failed
-unfolding failure_of if◌then◌else◌
+unfolding failure_of
 down_node kind failed e l = rw (ne_eqb kind 0 (λ z. omega arith), ne_eqb kind 1 (λ z. omega arith), eq-eqb kind 2 e, lt-ltb failed 256 l)
 
 pub down_no_node : (kind failed : ℕ) → kind ≡ 2 → 256 ≤ failed → Link 65535 ≡ failure_of kind failed
-unfolding failure_of if◌then◌else◌
+unfolding failure_of
 down_no_node kind failed e l = rw (ne_eqb kind 0 (λ z. omega arith), ne_eqb kind 1 (λ z. omega arith), eq-eqb kind 2 e, le-ltb failed 256 l)
 
 pub ruleset words = (length_given, length_refused, header_is, read_given, read_refused, outcome_under_way, outcome_delivered, outcome_dropped, packet_is, stands_is, step_delivered, step_moved, step_dropped, step_taken, step_refused, journey_is, run_ended, run_refused, down_nothing, down_link, down_unknown, down_node, down_no_node)

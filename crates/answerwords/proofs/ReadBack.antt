@@ -1,4 +1,5 @@
 -- What C reads from a word is what the entry tells: bit 63 is clear exactly where it accepts, and number, place and every value come back.
+use Rattle.std.specs.Prelude.{if◌then◌else◌}
 use mathlib.Core.Path.{◌≡◌, refl, sym, ap, ap₂, subst, ◌∙◌}
 use mathlib.Core.Logic.{◌↔◌}
 use mathlib.Core.Bool.{true, false, true≢false}
@@ -9,7 +10,6 @@ use native.Mathlib.Omega.{arith}
 use borrow.Author.Tests.{le-leb, lt-leb}
 use Rattle.rules.specs.declared.Verdict.{Verdict}
 use Rattle.rules.specs.declared.Verdict.TheVariants.{Accepted, Refused}
-use Rattle.rules.specs.Basics.{if◌then◌else◌}
 use Rattle.rules.specs.Answers.{accepted, refused, tell}
 use Rattle.rules.specs.Entries.Entry.{Entry}
 use Rattle.rules.specs.Entries.Read.{read_entry}
@@ -73,7 +73,7 @@ module _ (ranges : List ℕ) (few : span ranges ≤ 9223372036854775808) where
   values_clear values b = lt-leb 9223372036854775808 (pack ranges values) (omega (arith, pack_below ranges values b))
 
   told_back : (v : Verdict) (values : List ℕ) → Numbered v → (v ≡ Accepted → Below ranges values) → told_by ranges (word_of ranges (tell v values)) ≡ tell v values
-  unfolding told_by word_of tell if◌then◌else◌
+  unfolding told_by word_of tell
   told_back Accepted values f g = rw (values_clear values (g refl)) (ap accepted (unpack_pack ranges values (g refl)))
   told_back (Refused number place) values f g =
       let L = f number place refl in

@@ -1,10 +1,9 @@
 -- An entry's answer packed into one word, as include/burnishpeg.h says.
-use Rattle.std.specs.Prelude.{◌≡◌, ◌↔◌, Bool, false, List, [], ◌∷◌, ℕ, ◌+◌, ◌*◌, ◌/◌, ◌%◌, eqb, ltb, leb}
+use Rattle.std.specs.Prelude.{◌≡◌, ◌↔◌, Bool, false, List, [], ◌∷◌, ℕ, ◌+◌, ◌*◌, ◌/◌, ◌%◌, eqb, ltb, leb, if◌then◌else◌}
 use Rattle.rules.specs.declared.Packet.{Packet}
 use Rattle.rules.specs.declared.Verdict.TheVariants.{Accepted}
 use Rattle.rules.specs.declared.Failure.{Failure}
 use Rattle.rules.specs.declared.Failure.TheVariants.{Nothing, Link, Node}
-use Rattle.rules.specs.Basics.{if◌then◌else◌}
 use Rattle.rules.specs.Answers.{Told, accepted, refused, tell}
 use Rattle.rules.specs.Entries.Entry.{Entry, on_accept, Promise}
 use Rattle.rules.specs.Entries.Read.{read_entry}

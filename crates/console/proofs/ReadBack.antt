@@ -1,4 +1,5 @@
 -- A number from 0 to 255 that is written in decimal, as the programs write them, is read back as itself.
+use Rattle.std.specs.Prelude.{if◌then◌else◌}
 use mathlib.Core.Path.{◌≡◌, refl, sym, ap, ◌∙◌}
 use mathlib.Core.Bool.{Bool, true, not, ◌&&◌}
 use Prim.Native.Nat.{ℕ, ◌≤◌}
@@ -6,7 +7,7 @@ use native.Mathlib.Omega.{arith}
 use lib.Dec.{eqb}
 use lib.ListN.{length}
 use borrow.Author.Tests.{eqb-true, eqb-false, not-true}
-use Rattle.rules.specs.Basics.{if◌then◌else◌, all}
+use Rattle.rules.specs.Basics.{all}
 use Rattle.rules.specs.Report.{digits, decimal}
 use Rattle.rules.proofs.Ground.Choices.{and_left, and_right}
 use Rattle.rules.proofs.Ground.Numbers.{all_at}
@@ -26,7 +27,7 @@ reads_back : ℕ → Bool
 reads_back x = written x && eqb (back x) x
 
 each : all reads_back 256 ≡ true
-unfolding all reads_back decimal digits if◌then◌else◌ value_of more
+unfolding all reads_back decimal digits value_of more
 each = refl
 
 pub read_back : (x : ℕ) → x ≤ 255 → number_in (decimal x) ≡ Given x

@@ -1,6 +1,5 @@
 -- What the digits of a text mean: a decimal number from 0 to 255, or none. 256 stands for none.
-use Rattle.std.specs.Prelude.{◌&&◌, List, ℕ, zero, suc, ◌+◌, ◌*◌, ◌-◌, min, eqb, leb, length, get_or}
-use Rattle.rules.specs.Basics.{if◌then◌else◌}
+use Rattle.std.specs.Prelude.{◌&&◌, List, ℕ, zero, suc, ◌+◌, ◌*◌, ◌-◌, min, eqb, leb, length, get_or, if◌then◌else◌}
 use Rattle.console.specs.declared.number.Number.{Number}
 use Rattle.console.specs.declared.number.Number.TheVariants.{Given, Unclear}
 

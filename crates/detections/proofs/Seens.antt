@@ -1,4 +1,5 @@
 -- What the code looks up and counts by the file's own tables is what the rules say of its set.
+use Rattle.std.specs.Prelude.{if◌then◌else◌}
 use mathlib.Core.Path.{◌≡◌, refl, sym, ap, ap₂, subst, ◌∙◌}
 use mathlib.Core.Bool.{Bool, true, false}
 use mathlib.Core.List.{List}
@@ -12,7 +13,6 @@ use Rattle.rules.specs.declared.Network.{Network}
 use Rattle.rules.specs.declared.Kind.TheVariants as change
 use Rattle.rules.specs.declared.Step.{Step}
 use Rattle.rules.specs.declared.Step.TheVariants.{Moved}
-use Rattle.rules.specs.Basics.{if◌then◌else◌}
 use Rattle.rules.specs.Limits.{most_hops}
 use Rattle.rules.specs.File.{Set, header_of, set_of}
 use Rattle.rules.specs.Isolation.{home}

@@ -1,5 +1,6 @@
 -- Hops counted along the next hops of one topology. A run that is delivered, in a backup topology or with nothing down, makes just these; and the detecting node's
 -- step is the move along its detour, which is never dropped.
+use Rattle.std.specs.Prelude.{if◌then◌else◌}
 use mathlib.Core.Path.{◌≡◌, refl, sym, ap, subst, ◌∙◌}
 use mathlib.Core.Bool.{Bool, true, false, true≢false}
 use Prim.Native.Nat.{ℕ, zero, suc, ◌-◌, ◌≤◌, ◌<◌}
@@ -12,7 +13,6 @@ use Rattle.rules.specs.declared.Kind.TheVariants as change
 use Rattle.rules.specs.declared.Step.{Step}
 use Rattle.rules.specs.declared.Step.TheVariants.{Delivered, Moved, Dropped}
 use Rattle.rules.specs.declared.Outcome.TheVariants as ended
-use Rattle.rules.specs.Basics.{if◌then◌else◌}
 use Rattle.rules.specs.Limits.{most_hops}
 use Rattle.rules.specs.File.{Set}
 use Rattle.rules.specs.Isolation.{home}
@@ -51,7 +51,7 @@ module _ (S : Set) (on : ℕ → ℕ → Bool) (i u t : ℕ) where
 step_blocked : (S : Set) (on : ℕ → ℕ → Bool) (u t : ℕ) → eqb u t ≡ false → on u (next_hop S 0 u t) ≡ false
     → step S (tables_of S) on (packet u t 0) ≡ change_to S (tables_of S) on (packet u t 0) (next_hop S 0 u t) ((tables_of S).next (home S (next_hop S 0 u t)) u t)
 unfolding step toward blocked tables_of
-step_blocked S on u t e o = if_no (eqb u t) _ _ e ∙ if_no (on u (next_hop S 0 u t)) _ _ o ∙ if_yes (eqb 0 0) _ _ refl
+step_blocked S on u t e o = if_no (eqb u t) _ _ e ∙ if_no (on u (next_hop S 0 u t)) _ _ o
 
 no_hops : (p : Packet) (s : Step) → hops (after_step s (λ q kind. stop p ended.UnderWay)) ≡ 0
 unfolding hops after_step stop

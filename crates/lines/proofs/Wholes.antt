@@ -1,4 +1,5 @@
 -- The parts of a line, the lines and the whole text, put together.
+use Rattle.std.specs.Prelude.{if◌then◌else◌}
 use mathlib.Core.Path.{◌≡◌, sym, ap, subst, ◌∙◌}
 use mathlib.Core.List.{List, [], ◌∷◌, ◌++◌, append_assoc}
 use Prim.Native.Nat.{ℕ, ◌+◌, ◌-◌, ◌*◌, ◌≤◌}
@@ -9,7 +10,7 @@ use lib.IntN.{pos, ◌-ℤ◌}
 use borrow.Author.Tests.{eq-eqb, ne_eqb}
 use Rattle.rules.specs.declared.Network.{Network}
 use Rattle.rules.specs.declared.Kind.{Kind}
-use Rattle.rules.specs.Basics.{if◌then◌else◌, flat}
+use Rattle.rules.specs.Basics.{flat}
 use Rattle.rules.specs.File.{Set, set_of}
 use Rattle.rules.specs.Forwarding.{letter}
 use Rattle.rules.specs.Report.{decimal, signed, extra_hops, space, newline, header_line, detection_line, detection_lines, last_line, report_text}

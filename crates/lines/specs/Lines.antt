@@ -1,7 +1,7 @@
 -- The line of a detection, the lines one after the other, and the last line.
-use Rattle.std.specs.Prelude.{List, [], ◌∷◌, ◌++◌, ℕ, ◌+◌, ◌-◌, ◌*◌, eqb, pos, ◌-ℤ◌}
+use Rattle.std.specs.Prelude.{List, [], ◌∷◌, ◌++◌, ℕ, ◌+◌, ◌-◌, ◌*◌, eqb, pos, ◌-ℤ◌, if◌then◌else◌}
 use Rattle.rules.specs.declared.Kind.{Kind}
-use Rattle.rules.specs.Basics.{if◌then◌else◌, flat}
+use Rattle.rules.specs.Basics.{flat}
 use Rattle.rules.specs.Limits.{largest}
 use Rattle.rules.specs.File.{Set}
 use Rattle.rules.specs.Forwarding.{letter}

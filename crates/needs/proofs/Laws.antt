@@ -1,4 +1,5 @@
 -- Each need as the code asks it.
+use Rattle.std.specs.Prelude.{if◌then◌else◌}
 use mathlib.Core.Path.{◌≡◌, refl, ap, ◌∙◌}
 use mathlib.Core.Bool.{Bool, true, false}
 use Prim.Native.Nat.{ℕ, suc, ◌*◌, ◌≤◌, ◌<◌}
@@ -11,7 +12,7 @@ use Rattle.rules.specs.declared.Failure.{Failure}
 use Rattle.rules.specs.declared.Failure.TheVariants.{Nothing, Link, Node}
 use Rattle.rules.specs.declared.Verdict.{Verdict}
 use Rattle.rules.specs.declared.Verdict.TheVariants.{Accepted, Refused}
-use Rattle.rules.specs.Basics.{if◌then◌else◌, need}
+use Rattle.rules.specs.Basics.{need}
 use Rattle.rules.specs.Limits.{home_records, row_weights}
 use Rattle.rules.specs.Judgement.{refuse, and_then, need_set, need_graph, need_failure, need_packet, need_cap, source_number, need_source}
 use Rattle.rules.proofs.Ground.Choices.{need_lt, need_lt_no, need_le, need_le_no, refuse_no, refuse_ok, then_on, then_stop}
@@ -87,11 +88,11 @@ unfolding need_source source_number refuse
 source_link u f l e = rw e
 
 pub source_failed : (u : ℕ) (f : Failure) (v : ℕ) → f ≡ Node v → v ≡ u → Refused 12 0 ≡ need_source u f
-unfolding need_source source_number refuse if◌then◌else◌
+unfolding need_source source_number refuse
 source_failed u f v e d = rw (e, eq-eqb v u d)
 
 pub source_up : (u : ℕ) (f : Failure) (v : ℕ) → f ≡ Node v → (v ≡ u → ⊥) → Accepted ≡ need_source u f
-unfolding need_source source_number refuse if◌then◌else◌
+unfolding need_source source_number refuse
 source_up u f v e d = rw (e, ne_eqb v u d)
 
 -- ---- a graph, a cap

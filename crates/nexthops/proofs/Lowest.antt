@@ -1,4 +1,5 @@
 -- The lowest node of a tie word is the lowest far end of the links that tie.
+use Rattle.std.specs.Prelude.{if◌then◌else◌}
 use Prim.Native.Nat.{ℕ, zero, suc, ◌+◌, ◌/◌, ◌%◌, ◌^◌, ◌≤◌, ◌<◌, min, max}
 use native.Mathlib.Nat.{le_refl, pow-suc}
 use native.Mathlib.Omega.{arith}
@@ -12,7 +13,6 @@ use lib.Dec.{eqb}
 use lib.Bits.{bit_or, or_step}
 use lib.Count.{count_trailing_zeros, under, trailing_le, trailing_of_zero}
 use borrow.Author.Tests.{eq-eqb, ne_eqb}
-use Rattle.rules.specs.Basics.{if◌then◌else◌}
 use Rattle.routes.specs.Passes.{Net}
 use Rattle.routes.proofs.Lanes.{same?}
 use Rattle.words.specs.Word.{either, lowest_in, only}
@@ -68,12 +68,11 @@ unfolding lowest_in
 first_low w = trailing_le 32 w
 
 pub first_pick : (s : Bool) (y : ℕ) → y < 32 → lowest_in (if s then only y else 0) ≡ (if s then y else 32)
-unfolding if◌then◌else◌
 first_pick true y h = first_bit y h
 first_pick false y h = first_zero
 
 first_mark : (x y c u : ℕ) (d w : List ℕ) → x < length w → y < 32 → lowest_in (get_or (mark x y c d w) u 0) ≡ min (lowest_in (get_or w u 0)) (via x y u c d)
-unfolding mark via tie_of if◌then◌else◌
+unfolding mark via tie_of
 first_mark x y c u d w h g =
     let bit = if eqb (c + get_or d y 0) (get_or d x 0) then only y else 0 in
     let word = either (get_or w x 0) bit in

@@ -1,4 +1,5 @@
 -- The next hops by tie words are the published ones, for the costs and distances of an accepted set.
+use Rattle.std.specs.Prelude.{if◌then◌else◌}
 use Prim.Native.Nat.{ℕ, zero, suc, ◌+◌, ◌≤◌, ◌<◌}
 use native.Mathlib.Nat.{le_trans, min-le_left, min-le_right, min-eq_left, min-eq_right, eq-or-lt_of_le, le_of_suc-le-suc, le_of_lt, le_antisymm}
 use native.Mathlib.Omega.{arith}
@@ -9,7 +10,7 @@ use mathlib.Core.List.{List}
 use lib.Dec.{eqb}
 use lib.ListN.{length, get_or}
 use borrow.Author.Tests.{eqb-true, eqb-false, eq-eqb}
-use Rattle.rules.specs.Basics.{if◌then◌else◌, lowest, up_to, flat}
+use Rattle.rules.specs.Basics.{lowest, up_to, flat}
 use Rattle.rules.specs.File.{Set}
 use Rattle.rules.specs.Isolation.{link_between}
 use Rattle.rules.specs.Distance.{distances, distance, on_least_path, next_hop}

@@ -1,6 +1,6 @@
 -- The neighbours that tie, as a word for each node and destination, and the next hops by them.
-use Rattle.std.specs.Prelude.{ℕ, zero, suc, ◌+◌, ◌≤◌, ◌<◌, min, ◌≡◌, List, [], length, get_or, set, replicate, eqb}
-use Rattle.rules.specs.Basics.{if◌then◌else◌, up_to, flat}
+use Rattle.std.specs.Prelude.{ℕ, zero, suc, ◌+◌, ◌≤◌, ◌<◌, min, ◌≡◌, List, [], length, get_or, set, replicate, eqb, if◌then◌else◌}
+use Rattle.rules.specs.Basics.{up_to, flat}
 use Rattle.rules.specs.Distance.{far}
 use Rattle.words.specs.Word.{either, only, lowest_in}
 use Rattle.routes.specs.Passes.{Net}

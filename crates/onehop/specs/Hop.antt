@@ -1,11 +1,10 @@
 -- The forwarding rule of a file's set, with lent tables, under a failure: the published definitions at what the code holds.
-use Rattle.std.specs.Prelude.{not, ◌||◌, List, ℕ, eqb}
+use Rattle.std.specs.Prelude.{not, ◌||◌, List, ℕ, eqb, if◌then◌else◌}
 use Rattle.rules.specs.declared.Packet.{Packet}
 use Rattle.rules.specs.declared.Failure.{Failure}
 use Rattle.rules.specs.declared.Kind.{Kind}
 use Rattle.rules.specs.declared.Kind.TheVariants as change
 use Rattle.rules.specs.declared.Step.{Step}
-use Rattle.rules.specs.Basics.{if◌then◌else◌}
 use Rattle.rules.specs.File.{Set, header_of, set_of}
 use Rattle.rules.specs.Isolation.{home}
 use Rattle.rules.specs.Forwarding.{Tables, lent_tables, step, change_number, lookup_number}

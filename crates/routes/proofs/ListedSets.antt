@@ -1,4 +1,5 @@
 -- The row in force and the cost row of a set that is held as lists.
+use Rattle.std.specs.Prelude.{if◌then◌else◌}
 use Prim.Native.Nat.{ℕ, zero, suc, ◌-◌, ◌*◌, ◌≤◌, ◌<◌}
 use native.Mathlib.Nat.{mul-le-mul_right}
 use native.Mathlib.Omega.{arith}
@@ -10,7 +11,7 @@ use lib.ListN.{length, get_or, drop, length-drop}
 use lib.Seq.{length-take-le}
 use borrow.Author.Tests.{ne_eqb, le-leb}
 use Rattle.rules.specs.declared.Network.{Network}
-use Rattle.rules.specs.Basics.{if◌then◌else◌, need, up_to}
+use Rattle.rules.specs.Basics.{need, up_to}
 use Rattle.rules.specs.Limits.{restricted_weight, row_weights, home_records}
 use Rattle.rules.specs.File.{Set, row_start}
 use Rattle.rules.specs.Isolation.{home, isolated, class_by, class, row_in_force}
@@ -32,7 +33,7 @@ module _ (net : Network) (a b weights homes rows : List ℕ) (A : AcceptedSet (l
   S = listed net a b weights homes rows
 
   pub row_is : row_of weights rows net.m i ≡ row_in_force S i
-  unfolding set_with row_of row_in_force row_start row_weights if◌then◌else◌
+  unfolding set_with row_of row_in_force row_start row_weights
   row_is = go i
     where
       go : (j : ℕ) → row_of weights rows net.m j ≡ row_in_force S j

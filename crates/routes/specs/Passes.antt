@@ -1,7 +1,7 @@
 -- Distances between all nodes, in place: first those over one link, then by passes. After the passes of the nodes below v an entry is the least
 -- total over the paths whose inner nodes are below v.
-use Rattle.std.specs.Prelude.{ℕ, zero, suc, ◌≤◌, ◌<◌, min, ◌≡◌, List, [], ltb, length, get_or, set}
-use Rattle.rules.specs.Basics.{if◌then◌else◌, up_to}
+use Rattle.std.specs.Prelude.{ℕ, zero, suc, ◌≤◌, ◌<◌, min, ◌≡◌, List, [], ltb, length, get_or, set, if◌then◌else◌}
+use Rattle.rules.specs.Basics.{up_to}
 use Rattle.rules.specs.Distance.{far}
 use Rattle.routes.specs.Lanes.{lanes, unit_row, entry}
 

@@ -1,11 +1,5 @@
 -- The few words of these definitions that are not 01's: a choice, tests in order, all and any, how many, the lowest, the least, and lists by index.
-use Rattle.std.specs.Prelude.{Bool, true, false, ◌&&◌, ◌||◌, List, [], ◌∷◌, ◌++◌, ℕ, zero, suc, ◌+◌, min, length, drop}
-
-infix 5 if◌then◌else◌
--- x where the test holds, y where it does not
-unfoldable pub if◌then◌else◌ {ℓ} : {A : Type ℓ} → Bool → A → A → A
-if true then x else y = x
-if false then x else y = y
+use Rattle.std.specs.Prelude.{Bool, true, false, ◌&&◌, ◌||◌, List, [], ◌∷◌, ◌++◌, ℕ, zero, suc, ◌+◌, min, length, drop, if◌then◌else◌}
 
 -- a test that is needed: where it holds the rest decides, where it does not this refusal number stands. 0 is no refusal
 unfoldable pub need : Bool → ℕ → ℕ → ℕ

@@ -1,6 +1,6 @@
 -- 01, 'Next hops'.
-use Rattle.std.specs.Prelude.{Bool, true, false, not, ◌&&◌, ◌≡◌, List, ◌++◌, ℕ, zero, suc, ◌+◌, ◌-◌, ◌≤◌, ◌<◌, eqb, get_or}
-use Rattle.rules.specs.Basics.{if◌then◌else◌, lowest, least, up_to, flat}
+use Rattle.std.specs.Prelude.{Bool, true, false, not, ◌&&◌, ◌≡◌, List, ◌++◌, ℕ, zero, suc, ◌+◌, ◌-◌, ◌≤◌, ◌<◌, eqb, get_or, if◌then◌else◌}
+use Rattle.rules.specs.Basics.{lowest, least, up_to, flat}
 use Rattle.rules.specs.File.{Set}
 use Rattle.rules.specs.Isolation.{home, neighbours, hop_weight, usable, class, Class, link_between}
 

@@ -1,5 +1,5 @@
 -- 01, 'Forwarding'.
-use Rattle.std.specs.Prelude.{Bool, true, false, not, ◌||◌, List, [], ◌∷◌, ℕ, zero, suc, ◌+◌, ◌*◌, eqb, length, get_or}
+use Rattle.std.specs.Prelude.{Bool, true, false, not, ◌||◌, List, [], ◌∷◌, ℕ, zero, suc, ◌+◌, ◌*◌, eqb, length, get_or, if◌then◌else◌}
 use Rattle.rules.specs.declared.Network.{Network}
 use Rattle.rules.specs.declared.Packet.{Packet}
 use Rattle.rules.specs.declared.Failure.{Failure}
@@ -10,7 +10,7 @@ use Rattle.rules.specs.declared.Step.{Step}
 use Rattle.rules.specs.declared.Step.TheVariants.{Delivered, Moved, Dropped}
 use Rattle.rules.specs.declared.Outcome.{Outcome}
 use Rattle.rules.specs.declared.Outcome.TheVariants as ended
-use Rattle.rules.specs.Basics.{if◌then◌else◌, need}
+use Rattle.rules.specs.Basics.{need}
 use Rattle.rules.specs.Limits.{most_hops}
 use Rattle.rules.specs.File.{Set}
 use Rattle.rules.specs.Isolation.{home, neighbours, link_between}

@@ -1,6 +1,6 @@
 -- 01, 'Rules for a backup topology i'.
-use Rattle.std.specs.Prelude.{Bool, true, false, not, ◌&&◌, ◌||◌, List, ℕ, zero, suc, ◌+◌, ◌-◌, ◌^◌, eqb, ltb, leb, get_or, take, drop}
-use Rattle.rules.specs.Basics.{if◌then◌else◌, need, all, any, count, lowest, up_to}
+use Rattle.std.specs.Prelude.{Bool, true, false, not, ◌&&◌, ◌||◌, List, ℕ, zero, suc, ◌+◌, ◌-◌, ◌^◌, eqb, ltb, leb, get_or, take, drop, if◌then◌else◌}
+use Rattle.rules.specs.Basics.{need, all, any, count, lowest, up_to}
 use Rattle.rules.specs.Limits.{restricted_weight, row_weights}
 use Rattle.rules.specs.File.{Set, row_start}
 

@@ -1,12 +1,12 @@
 -- 01, 'Refusal numbers': the judgement of a file's bytes, and the parts of the order that follow it.
-use Rattle.std.specs.Prelude.{Bool, true, ◌&&◌, ◌||◌, List, ℕ, zero, suc, ◌+◌, eqb, ltb, leb, length, get_or}
+use Rattle.std.specs.Prelude.{Bool, true, ◌&&◌, ◌||◌, List, ℕ, zero, suc, ◌+◌, eqb, ltb, leb, length, get_or, if◌then◌else◌}
 use Rattle.rules.specs.declared.Network.{Network}
 use Rattle.rules.specs.declared.Packet.{Packet}
 use Rattle.rules.specs.declared.Failure.{Failure}
 use Rattle.rules.specs.declared.Failure.TheVariants.{Nothing, Link, Node}
 use Rattle.rules.specs.declared.Verdict.{Verdict}
 use Rattle.rules.specs.declared.Verdict.TheVariants.{Accepted, Refused}
-use Rattle.rules.specs.Basics.{if◌then◌else◌, need, all}
+use Rattle.rules.specs.Basics.{need, all}
 use Rattle.rules.specs.Limits.{need_counts, header_length, home_records, link_place, home_place, row_place, file_length}
 use Rattle.rules.specs.File.{Set, header_of, end_a, end_b, link_weight, home_node, home_topology, row_topology, row_weight, set_of}
 use Rattle.rules.specs.Isolation.{class_by, weight_fits, topology_number}

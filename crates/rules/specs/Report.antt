@@ -1,5 +1,5 @@
 -- 01, 'The report program', with 02's request a.
-use Rattle.std.specs.Prelude.{List, [], ◌∷◌, ◌++◌, ℕ, zero, suc, ◌+◌, ◌-◌, ◌*◌, ◌/◌, ◌%◌, eqb, ltb, ℤ, pos, negsuc, ◌-ℤ◌}
+use Rattle.std.specs.Prelude.{List, [], ◌∷◌, ◌++◌, ℕ, zero, suc, ◌+◌, ◌-◌, ◌*◌, ◌/◌, ◌%◌, eqb, ltb, ℤ, pos, negsuc, ◌-ℤ◌, if◌then◌else◌}
 use Rattle.rules.specs.declared.Kind.{Kind}
 use Rattle.rules.specs.declared.Kind.TheVariants as change
 use Rattle.rules.specs.declared.Packet.{Packet}
@@ -7,7 +7,7 @@ use Rattle.rules.specs.declared.Step.{Step}
 use Rattle.rules.specs.declared.Step.TheVariants.{Delivered, Moved, Dropped}
 use Rattle.rules.specs.declared.Verdict.{Verdict}
 use Rattle.rules.specs.declared.Verdict.TheVariants.{Accepted, Refused}
-use Rattle.rules.specs.Basics.{if◌then◌else◌, flat}
+use Rattle.rules.specs.Basics.{flat}
 use Rattle.rules.specs.File.{Set}
 use Rattle.rules.specs.Isolation.{link_between}
 use Rattle.rules.specs.Distance.{next_hop}

@@ -1,4 +1,5 @@
 -- A signed number as the code holds it: 32 bits, read back; widened to 64; and turned round. Each is the integer that is meant.
+use Rattle.std.specs.Prelude.{if◌then◌else◌}
 use mathlib.Core.Path.{◌≡◌, refl, sym, ap, ap₂, subst, ◌∙◌}
 use mathlib.Core.Bool.{Bool, true, false, true≢false}
 use mathlib.Core.List.{List, [], ◌∷◌}
@@ -12,7 +13,6 @@ use borrow.Author.Tests.{ltb-true, le-ltb}
 use mir.Syntax.{w32, w64}
 use mir.Val.{Fits, SFits, to_z, of_z}
 use mir.Facts.{to_z-of_z}
-use Rattle.rules.specs.Basics.{if◌then◌else◌}
 use Rattle.rules.specs.Report.{decimal, signed}
 use Rattle.rules.proofs.Ground.Choices.{if_yes, if_no}
 use Rattle.text.specs.Text.{Wrote, with_sign, number_room, signed_room}
@@ -105,7 +105,7 @@ sign_none old new at r x below e w =
 by_sign : (z : ℤ) → with_sign (lt_z z (pos 0)) (nat_abs z) ≡ signed z
 unfolding with_sign signed
 by_sign (pos n) = if_no (ltb n 0) _ _ (le-ltb n 0 (omega arith))
-by_sign (negsuc n) = if_yes true _ _ refl ∙ ap (λ (x : ℕ). 45 ∷ decimal x) (sym (add-one n))
+by_sign (negsuc n) = ap (λ (x : ℕ). 45 ∷ decimal x) (sym (add-one n))
 
 pub signed_of : (old new : List ℕ) (at r d : ℕ) (below : Bool) (x : ℤ) → SFits w32 x → below ≡ lt_z (to_z w32 (of_z w32 x)) (pos 0) → d ≡ nat_abs (to_z w32 (of_z w32 x))
     → Wrote old at (with_sign below d) signed_room r new → Wrote old at (signed x) signed_room r new

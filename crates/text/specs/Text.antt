@@ -1,6 +1,5 @@
 -- Bytes written into a text at a cursor.
-use Rattle.std.specs.Prelude.{◌≡◌, Bool, List, ◌∷◌, ◌++◌, ℕ, ◌+◌, ◌≤◌, length}
-use Rattle.rules.specs.Basics.{if◌then◌else◌}
+use Rattle.std.specs.Prelude.{◌≡◌, Bool, List, ◌∷◌, ◌++◌, ℕ, ◌+◌, ◌≤◌, length, if◌then◌else◌}
 use Rattle.rules.specs.Report.{decimal, space}
 use Rattle.slices.specs.Stores.{put}
 

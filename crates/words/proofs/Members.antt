@@ -1,4 +1,5 @@
 -- Who is in each word of `Word`, and in the word of a test; a word is its members.
+use Rattle.std.specs.Prelude.{if◌then◌else◌}
 use mathlib.Core.Path.{◌≡◌, refl, sym, ap, ap₂, ◌∙◌}
 use mathlib.Core.Bool.{Bool, true, false, ◌&&◌, ◌||◌, not, and-true, and-false, or-true, or-false, true≢false, false≢true}
 use Prim.Native.Nat.{ℕ, zero, suc, ◌+◌, ◌-◌, ◌*◌, ◌/◌, ◌%◌, ◌^◌, ◌≤◌, ◌<◌}
@@ -10,7 +11,6 @@ use lib.Arith.{lt-one}
 use lib.Pow.{pow_pos, shr-shr, pow-lt, pow_mono}
 use lib.Bits.{bit_and, bit_or, and_shr, or_shr, and_mod, or_mod, or_lt, and_le_l}
 use borrow.Author.Tests.{eqb-true, eqb-false, ltb-true, lt-ltb, le-ltb}
-use Rattle.rules.specs.Basics.{if◌then◌else◌}
 use Rattle.rules.specs.Isolation.{word}
 use Rattle.rules.proofs.Ground.Choices.{if_yes, if_no}
 use Rattle.words.specs.Word.{has, both, either, minus, only, adding, removing, firsts, put}
@@ -253,7 +253,6 @@ word_below p (suc n) = go (word_below p n) (p n) refl
     go h false e = rw (pow-suc) (omega (arith, if_no (p n) (2 ^ n) 0 e))
 
 has_more : (t : Bool) (n w v : ℕ) → w < 2 ^ n → has ((if t then 2 ^ n else 0) + w) v ≡ (has w v || (t && eqb v n))
-unfolding if◌then◌else◌
 has_more true n w v h = has_plus n w v h
 has_more false n w v h = ap (λ (x : ℕ). has x v) (zero-add w) ∙ sym (or-false (has w v))
 

@@ -1,4 +1,5 @@
 -- What first fit makes of a graph, as 01 says it: each node goes to the first topology that admits it, k is the highest used, rows are topology 0's weights.
+use Rattle.std.specs.Prelude.{if◌then◌else◌}
 use mathlib.Core.Path.{◌≡◌, refl, sym, ap, subst, ◌∙◌}
 use mathlib.Core.Bool.{Bool, true, false}
 use mathlib.Core.List.{List}
@@ -7,7 +8,6 @@ use native.Mathlib.Omega.{arith}
 use lib.Dec.{ltb, leb}
 use lib.ListN.{get_or, set}
 use borrow.Author.Tests.{ltb-true, ltb-false, leb-true, leb-false, eq-eqb}
-use Rattle.rules.specs.Basics.{if◌then◌else◌}
 use Rattle.rules.specs.File.{Set}
 use Rattle.rules.specs.Isolation.{home, class, topology_number}
 use Rattle.rules.specs.Building.{with_homes, admits, first_topology, homes_after, first_fit, fits, highest, filled, built}

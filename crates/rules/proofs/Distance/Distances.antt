@@ -1,4 +1,5 @@
 -- The distance that is computed by rounds is the least total weight over all paths, for every set that meets the rules; `far` where there is no path.
+use Rattle.std.specs.Prelude.{if◌then◌else◌}
 use mathlib.Core.Path.{◌≡◌, refl, ap, ◌∙◌}
 use mathlib.Core.Bool.{Bool, true, false}
 use Prim.Native.Nat.{ℕ, zero, suc, ◌+◌, ◌-◌, ◌*◌, ◌≤◌, ◌<◌}
@@ -7,7 +8,7 @@ use native.Mathlib.Omega.{arith}
 use lib.Dec.{eqb, ltb, leb}
 use lib.ListN.{get_or}
 use borrow.Author.Tests.{ltb-true, ltb-false}
-use Rattle.rules.specs.Basics.{if◌then◌else◌, least}
+use Rattle.rules.specs.Basics.{least}
 use Rattle.rules.specs.Limits.{restricted_weight}
 use Rattle.rules.specs.File.{Set}
 use Rattle.rules.specs.Isolation.{hop_weight, usable}

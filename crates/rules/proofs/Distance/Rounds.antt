@@ -1,5 +1,6 @@
 -- Least totals by rounds, over any weights c between n nodes; 0 is no hop. n - 1 rounds are enough: a node that round h brings nearer has at least h
 -- nodes nearer than itself, and there are at most n - 1 of those.
+use Rattle.std.specs.Prelude.{if◌then◌else◌}
 use mathlib.Core.Path.{◌≡◌, refl}
 use mathlib.Core.Logic.{◌⊎◌, inl, inr}
 use mathlib.Core.Bool.{Bool, true, false}
@@ -7,7 +8,7 @@ use Prim.Native.Nat.{ℕ, zero, suc, ◌+◌, ◌*◌, ◌≤◌, ◌<◌}
 use native.Mathlib.Omega.{arith}
 use lib.Dec.{eqb, ltb, leb}
 use borrow.Author.Tests.{eqb-true, eq-eqb, ltb-true, ltb-false, lt-ltb, le-ltb, leb-true, le-leb}
-use Rattle.rules.specs.Basics.{if◌then◌else◌, count, least}
+use Rattle.rules.specs.Basics.{count, least}
 use Rattle.rules.proofs.Ground.Choices.{if_yes, if_no}
 use Rattle.rules.proofs.Ground.Numbers.{count_lt, count_all, least_other, least_le, least_is}
 

@@ -1,11 +1,11 @@
 -- Demand 1 of any entry: it takes every input, a refusal alters nothing, lengths are kept, and two results that its promise allows coincide. The answers that
 -- each telling has.
+use Rattle.std.specs.Prelude.{if◌then◌else◌}
 use mathlib.Core.Path.{◌≡◌, refl, sym, ap, ap₂, ◌∙◌}
 use mathlib.Core.List.{List, [], ◌∷◌}
 use Prim.Native.Nat.{ℕ}
 use native.Mathlib.Omega.{arith}
 use lib.Dec.{eqb}
-use Rattle.rules.specs.Basics.{if◌then◌else◌}
 use Rattle.rules.specs.Forwarding.{Run, hops, letter}
 use Rattle.rules.specs.Answers.{accepted, refused, tell, header_values, read_tells, length_tells, outcome_value, packet_values, step_values, step_tells, journey_values, run_tells}
 use Rattle.rules.specs.Entries.Entry.{Entry, on_accept}
@@ -98,7 +98,7 @@ kind_for : ℕ → Kind
 kind_for x = if eqb x 84 then change.T else (if eqb x 83 then change.S else (if eqb x 68 then change.D else change.Unchanged))
 
 kind_back : (k : Kind) → kind_for (letter k) ≡ k
-unfolding kind_for letter if◌then◌else◌
+unfolding kind_for letter
 kind_back change.Unchanged = refl
 kind_back change.T = refl
 kind_back change.S = refl
@@ -112,7 +112,7 @@ outcome_for : ℕ → Outcome
 outcome_for x = if eqb x 0 then ended.UnderWay else (if eqb x 1 then ended.Delivered else ended.Dropped)
 
 outcome_back : (o : Outcome) → outcome_for (outcome_value o) ≡ o
-unfolding outcome_for outcome_value if◌then◌else◌
+unfolding outcome_for outcome_value
 outcome_back ended.UnderWay = refl
 outcome_back ended.Delivered = refl
 outcome_back ended.Dropped = refl

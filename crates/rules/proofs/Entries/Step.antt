@@ -1,4 +1,5 @@
 -- Of the entry `step`: what it accepts, and what it then answers.
+use Rattle.std.specs.Prelude.{if◌then◌else◌}
 use mathlib.Core.Path.{◌≡◌, refl, sym, subst}
 use mathlib.Core.Bool.{Bool, true, false, not, ◌||◌, true≢false, false≢true}
 use Prim.Native.Nat.{ℕ}
@@ -7,7 +8,7 @@ use lib.Dec.{eqb}
 use borrow.Author.Tests.{eqb-true, eqb-false, eq-eqb, ne_eqb}
 use Rattle.rules.specs.declared.Packet.{Packet}
 use Rattle.rules.specs.declared.Verdict.TheVariants.{Accepted}
-use Rattle.rules.specs.Basics.{if◌then◌else◌, need}
+use Rattle.rules.specs.Basics.{need}
 use Rattle.rules.specs.Limits.{tables_length}
 use Rattle.rules.specs.File.{Set, header_of, set_of}
 use Rattle.rules.specs.Isolation.{neighbours, home}
@@ -34,7 +35,7 @@ record Tested (here a on zero b back c : Bool) : Type 0 where
   around : here ≡ false → on ≡ false → zero ≡ true → back ≡ true → c ≡ true
 
 tested : (here a on zero b back c : Bool) → tests here a on zero b back c ≡ 0 → Tested here a on zero b back c
-unfolding if◌then◌else◌ need
+unfolding need
 tested true a on zero b back c e = record { next = λ h. absurd (true≢false h); changed = λ h p q. absurd (true≢false h); around = λ h p q s. absurd (true≢false h) }
 tested false false on zero b back c e = absurd (omega arith)
 tested false true true zero b back c e = record { next = λ h. refl; changed = λ h p q. absurd (true≢false p); around = λ h p q s. absurd (true≢false p) }
@@ -45,7 +46,7 @@ tested false true false true true true false e = absurd (omega arith)
 tested false true false true true true true e = record { next = λ h. refl; changed = λ h p q. refl; around = λ h p q s. refl }
 
 passed : (here a on zero b back c : Bool) → Tested here a on zero b back c → tests here a on zero b back c ≡ 0
-unfolding if◌then◌else◌ need
+unfolding need
 passed true a on zero b back c t = refl
 passed false false on zero b back c t = absurd (false≢true (t.next refl))
 passed false true true zero b back c t = refl

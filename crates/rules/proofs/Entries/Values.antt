@@ -1,4 +1,5 @@
 -- How large the values of an accepted call are: of every entry, whatever it is given and lent.
+use Rattle.std.specs.Prelude.{if◌then◌else◌}
 use mathlib.Core.Path.{◌≡◌, refl, sym, ◌∙◌}
 use mathlib.Core.Bool.{Bool, true, false, not, ◌||◌}
 use mathlib.Core.List.{List, [], ◌∷◌}
@@ -17,7 +18,6 @@ use Rattle.rules.specs.declared.Outcome.TheVariants as ended
 use Rattle.rules.specs.declared.Step.{Step}
 use Rattle.rules.specs.declared.Step.TheVariants.{Delivered, Moved, Dropped}
 use Rattle.rules.specs.declared.Verdict.TheVariants.{Accepted}
-use Rattle.rules.specs.Basics.{if◌then◌else◌}
 use Rattle.rules.specs.Limits.{need_counts, file_length, tables_length, most_hops, report_room}
 use Rattle.rules.specs.File.{Set, header_of, set_of}
 use Rattle.rules.specs.Isolation.{neighbours, home}
@@ -145,7 +145,6 @@ unfolding StepBelow Below step_values packet_values
 dropped_below p m = (omega arith, (omega arith, (m.place, (m.destination, (m.topology, tt)))))
 
 choose_below : (x y : Step) (b : Bool) → (b ≡ true → StepBelow x) → (b ≡ false → StepBelow y) → StepBelow (if b then x else y)
-unfolding if◌then◌else◌
 choose_below x y true f g = f refl
 choose_below x y false f g = g refl
 

@@ -1,5 +1,6 @@
 -- The kind of a change of topology, told by the destination and the homes: T exactly where the next hop that is down is not the destination; where it is,
 -- S exactly where place and next hop share a home, and D where they do not.
+use Rattle.std.specs.Prelude.{if◌then◌else◌}
 use mathlib.Core.Path.{◌≡◌, refl, sym, ap, subst, ◌∙◌}
 use mathlib.Core.Bool.{Bool, true, false}
 use Prim.Native.Nat.{ℕ}
@@ -11,7 +12,6 @@ use Rattle.rules.specs.declared.Kind.{Kind}
 use Rattle.rules.specs.declared.Kind.TheVariants as change
 use Rattle.rules.specs.declared.Step.{Step}
 use Rattle.rules.specs.declared.Step.TheVariants.{Delivered, Moved, Dropped}
-use Rattle.rules.specs.Basics.{if◌then◌else◌}
 use Rattle.rules.specs.File.{Set}
 use Rattle.rules.specs.Isolation.{home}
 use Rattle.rules.specs.Distance.{next_hop}
@@ -73,7 +73,6 @@ module _ (S : Set) (A : AcceptedSet S) (on : ℕ → ℕ → Bool) (p : Packet) 
 
   other_kind : (v w : ℕ) (q : Packet) → Detects S on p v → w ≡ next_hop S (home S v) p.place p.destination → (w ≡ v → ⊥) → q.topology ≡ home S v
       → (b : Bool) → eqb p.destination v ≡ b → KindIs S p v q (if b then change.S else change.T)
-  unfolding if◌then◌else◌
   other_kind v w q d e ne g true t = let x = eqb-true p.destination v t in is_s S p v q x (share v w d e ne x) g
   other_kind v w q d e ne g false t = is_t S p v q (eqb-false p.destination v t) g
 

@@ -1,4 +1,5 @@
 -- Tables as bytes: what stands at each entry, and that a step or a run by the bytes of a set's own tables is the one by its rules.
+use Rattle.std.specs.Prelude.{if◌then◌else◌}
 use mathlib.Core.Path.{◌≡◌, refl, sym, ap, ◌∙◌}
 use mathlib.Core.Bool.{Bool, true, false}
 use mathlib.Core.List.{List}
@@ -13,7 +14,7 @@ use Rattle.rules.specs.declared.Step.{Step}
 use Rattle.rules.specs.declared.Step.TheVariants.{Delivered, Moved, Dropped}
 use Rattle.rules.specs.declared.Kind.TheVariants as change
 use Rattle.rules.specs.declared.Outcome.TheVariants as ended
-use Rattle.rules.specs.Basics.{if◌then◌else◌, laid}
+use Rattle.rules.specs.Basics.{laid}
 use Rattle.rules.specs.Limits.{tables_length}
 use Rattle.rules.specs.File.{Set}
 use Rattle.rules.specs.Isolation.{home}

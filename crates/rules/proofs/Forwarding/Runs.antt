@@ -1,5 +1,6 @@
 -- Whatever is down: every run of an accepted set ends within 2n - 3 hops and one change of topology, over links that are up and usable.
 -- In topology 0 the nodes nearer to the destination and n - 2 more bound the hops that may still come, in a backup topology the nodes nearer to it; every move lessens this.
+use Rattle.std.specs.Prelude.{if◌then◌else◌}
 use mathlib.Core.Path.{◌≡◌, refl, subst, ◌∙◌}
 use mathlib.Core.Bool.{Bool, true, false}
 use Prim.Native.Nat.{ℕ, zero, suc, ◌+◌, ◌-◌, ◌≤◌, ◌<◌}
@@ -12,7 +13,6 @@ use Rattle.rules.specs.declared.Kind.TheVariants as change
 use Rattle.rules.specs.declared.Step.{Step}
 use Rattle.rules.specs.declared.Step.TheVariants.{Delivered, Moved, Dropped}
 use Rattle.rules.specs.declared.Outcome.TheVariants as ended
-use Rattle.rules.specs.Basics.{if◌then◌else◌}
 use Rattle.rules.specs.Limits.{most_hops}
 use Rattle.rules.specs.File.{Set}
 use Rattle.rules.specs.Isolation.{neighbours, home, usable}
@@ -76,7 +76,7 @@ none_left zero h = absurd (omega arith)
 none_left (suc j) h = refl
 
 pub changed_once : (b : Bool) → changed (if b then change.S else change.T) ≡ 1
-unfolding changed if◌then◌else◌
+unfolding changed
 changed_once true = refl
 changed_once false = refl
 

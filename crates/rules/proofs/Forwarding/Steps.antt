@@ -1,4 +1,5 @@
 -- A step by the tables of a set, taken apart by cases, each with its reasons.
+use Rattle.std.specs.Prelude.{if◌then◌else◌}
 use mathlib.Core.Path.{◌≡◌, refl, sym, ◌∙◌}
 use mathlib.Core.Bool.{Bool, true, false}
 use Prim.Native.Nat.{ℕ}
@@ -8,7 +9,6 @@ use Rattle.rules.specs.declared.Packet.{Packet}
 use Rattle.rules.specs.declared.Kind.TheVariants as change
 use Rattle.rules.specs.declared.Step.{Step}
 use Rattle.rules.specs.declared.Step.TheVariants.{Delivered, Moved, Dropped}
-use Rattle.rules.specs.Basics.{if◌then◌else◌}
 use Rattle.rules.specs.File.{Set}
 use Rattle.rules.specs.Isolation.{home}
 use Rattle.rules.specs.Distance.{next_hop, alternate}
@@ -37,7 +37,6 @@ module _ (S : Set) (on : ℕ → ℕ → Bool) (p : Packet) where
     around_down : (v : ℕ) → Detects v → next_hop S (home S v) p.place p.destination ≡ v → on p.place (alternate S p.place v) ≡ false → View (Dropped p)
 
   choose : (x y : Step) (b : Bool) → (b ≡ true → View x) → (b ≡ false → View y) → View (if b then x else y)
-  unfolding if◌then◌else◌
   choose x y true f g = f refl
   choose x y false f g = g refl
 

@@ -1,4 +1,5 @@
 -- Laws of tests in order: a choice, a needed test, a refusal, and verdicts one after the other.
+use Rattle.std.specs.Prelude.{if◌then◌else◌}
 use mathlib.Core.Path.{◌≡◌, refl, sym, ap, ap₂, subst, ◌∙◌}
 use mathlib.Core.Bool.{Bool, true, false, ◌&&◌, ◌||◌, true≢false, false≢true}
 use mathlib.Core.Logic.{◌⊎◌, inl, inr}
@@ -10,7 +11,7 @@ use lib.Dec.{eqb, ltb, leb}
 use borrow.Author.Tests.{lt-ltb, le-ltb, le-leb, lt-leb, eq-eqb, ne_eqb}
 use Rattle.rules.specs.declared.Verdict.{Verdict}
 use Rattle.rules.specs.declared.Verdict.TheVariants.{Accepted, Refused}
-use Rattle.rules.specs.Basics.{if◌then◌else◌, need}
+use Rattle.rules.specs.Basics.{need}
 use Rattle.rules.specs.Judgement.{refuse, and_then, in_turn}
 
 -- ---- Bool
@@ -61,12 +62,10 @@ same_test false false f g = refl
 
 module _ {A : Type 0} where
   pub if_yes : (t : Bool) (x y : A) → t ≡ true → (if t then x else y) ≡ x
-  unfolding if◌then◌else◌
   if_yes true x y e = refl
   if_yes false x y e = absurd (false≢true e)
 
   pub if_no : (t : Bool) (x y : A) → t ≡ false → (if t then x else y) ≡ y
-  unfolding if◌then◌else◌
   if_no true x y e = absurd (true≢false e)
   if_no false x y e = refl
 

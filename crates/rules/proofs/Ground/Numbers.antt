@@ -1,4 +1,5 @@
 -- Laws of all, any, count, lowest and least over the numbers below n.
+use Rattle.std.specs.Prelude.{if◌then◌else◌}
 use mathlib.Core.Path.{◌≡◌, refl, sym, ap, ap₂, ◌∙◌}
 use mathlib.Core.Bool.{Bool, true, false, ◌&&◌, ◌||◌, true≢false, false≢true}
 use mathlib.Core.Logic.{◌⊎◌, inl, inr}
@@ -6,7 +7,7 @@ use Prim.Native.Nat.{ℕ, zero, suc, ◌+◌, ◌≤◌, ◌<◌, min}
 use native.Mathlib.Omega.{arith}
 use lib.Dec.{eqb, leb}
 use borrow.Author.Tests.{eqb-true, eqb-false, eq-eqb, ne_eqb, leb-true, leb-false}
-use Rattle.rules.specs.Basics.{if◌then◌else◌, all, any, count, lowest, least}
+use Rattle.rules.specs.Basics.{all, any, count, lowest, least}
 use Rattle.rules.specs.Sets.{Two}
 use Rattle.rules.proofs.Ground.Choices.{and_of, and_left, and_right, or_left, or_right, or_cases, clash, false_of, if_yes, if_no}
 
@@ -62,7 +63,6 @@ bit true = 1
 bit false = 0
 
 if_bit : (t : Bool) → (if t then 1 else 0) ≡ bit t
-unfolding if◌then◌else◌
 if_bit true = refl
 if_bit false = refl
 

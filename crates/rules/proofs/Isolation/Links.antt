@@ -1,4 +1,5 @@
 -- Laws of links: the link between two nodes, its class by their homes, and the weight of the hop, for a set that meets the rules.
+use Rattle.std.specs.Prelude.{if◌then◌else◌}
 use mathlib.Core.Path.{◌≡◌, refl, ap, ap₂, ◌∙◌}
 use mathlib.Core.Logic.{◌⊎◌, inl, inr, ⊎_elim}
 use mathlib.Core.Bool.{Bool, true, false, ◌&&◌}
@@ -9,7 +10,6 @@ use lib.Dec.{eqb}
 use lib.ListN.{get_or}
 use lib.Seq.{get_or-take}
 use borrow.Author.Tests.{eqb-true, eq-eqb, ltb-true, lt-ltb, leb-true, le-leb}
-use Rattle.rules.specs.Basics.{if◌then◌else◌}
 use Rattle.rules.specs.Limits.{restricted_weight, row_weights}
 use Rattle.rules.specs.File.{Set}
 use Rattle.rules.specs.Isolation.{joins, link_between, neighbours, isolated, Class, Normal, class_by, class, row_in_force, weight_by, weight_from, hop_weight, usable}
@@ -212,7 +212,7 @@ module _ (S : Set) (M : MeetsRules S) where
   none_isolated v = refl
 
   row_plain : (i l : ℕ) → i ≤ S.net.k → l < S.net.m → class S i l ≡ Normal → (1 ≤ get_or (row_in_force S i) l 0) × (get_or (row_in_force S i) l 0 ≤ S.net.wmax)
-  unfolding row_in_force row_weights if◌then◌else◌
+  unfolding row_in_force row_weights
   row_plain zero l hi hl e = rw (get_or-take S.net.m S.weights l 0 hl) (M.weights l hl)
   row_plain (suc i) l hi hl e = M.normal (suc i) l (omega arith) hi hl e
 

@@ -1,4 +1,5 @@
 -- What each needed test asks, as a proposition: lists and room, 13, 11 and 12. Each law both ways.
+use Rattle.std.specs.Prelude.{if◌then◌else◌}
 use mathlib.Core.Path.{◌≡◌, refl, sym}
 use mathlib.Core.Bool.{Bool, true, false}
 use mathlib.Core.List.{List}
@@ -12,7 +13,7 @@ use Rattle.rules.specs.declared.Packet.{Packet}
 use Rattle.rules.specs.declared.Failure.{Failure}
 use Rattle.rules.specs.declared.Failure.TheVariants.{Nothing, Link, Node}
 use Rattle.rules.specs.declared.Verdict.TheVariants.{Accepted}
-use Rattle.rules.specs.Basics.{if◌then◌else◌, need}
+use Rattle.rules.specs.Basics.{need}
 use Rattle.rules.specs.Forwarding.{fault_of, failed}
 use Rattle.rules.specs.Judgement.{need_set, need_graph, need_failure, need_packet, need_cap, source_number, need_source, need_room}
 use Rattle.rules.specs.Entries.Lists.{Lists, need_lists, LongLists}
@@ -118,7 +119,6 @@ packet_given h p f k =
 -- ---- 12
 
 not_twelve : (t : Bool) → ◌≡◌ {A = ℕ} (if t then 12 else 0) 0 → t ≡ false
-unfolding if◌then◌else◌
 not_twelve true e = absurd (omega arith)
 not_twelve false e = refl
 
@@ -129,7 +129,7 @@ stands u (Link l) e = tt
 stands u (Node v) e = eqb-false v u (not_twelve (eqb v u) e)
 
 stands_up : (u : ℕ) (f : Failure) → Standing u f → source_number u f ≡ 0
-unfolding source_number if◌then◌else◌
+unfolding source_number
 stands_up u Nothing s = refl
 stands_up u (Link l) s = refl
 stands_up u (Node v) s = rw (ne_eqb v u s)

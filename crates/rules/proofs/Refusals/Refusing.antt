@@ -1,4 +1,5 @@
 -- What the number and the place of a refusal say is so: of every entry, row by row of 01's table.
+use Rattle.std.specs.Prelude.{if◌then◌else◌}
 use mathlib.Core.Path.{◌≡◌, refl, sym, ap, subst, ◌∙◌}
 use mathlib.Core.Bool.{Bool, true, false, not, ◌&&◌, ◌||◌, true≢false, false≢true}
 use mathlib.Core.Logic.{◌⊎◌, inl, inr}
@@ -14,7 +15,7 @@ use Rattle.rules.specs.declared.Failure.{Failure}
 use Rattle.rules.specs.declared.Failure.TheVariants.{Nothing, Link, Node}
 use Rattle.rules.specs.declared.Verdict.{Verdict}
 use Rattle.rules.specs.declared.Verdict.TheVariants.{Accepted, Refused}
-use Rattle.rules.specs.Basics.{if◌then◌else◌, need, all}
+use Rattle.rules.specs.Basics.{need, all}
 use Rattle.rules.specs.Limits.{need_counts, row_weights, header_length, home_records, link_place, home_place, row_place, file_length, tables_length, trail_room}
 use Rattle.rules.specs.File.{Set, encode, header_of, end_a, end_b, link_weight, home_node, home_topology, row_topology, row_weight, set_of}
 use Rattle.rules.specs.Isolation.{neighbours, home, isolated, backbone, class_by, weight_fits, connected, restricted_links, two_links, topology_number}
@@ -246,7 +247,7 @@ nine_or_ten G cap = go (all (spared G) G.net.n) (fits G cap)
     go false b = inr (inl refl)
 
 lookup_or : (S : Set) (tables : Tables) (on : ℕ → ℕ → Bool) (p : Packet) → (lookup_number S tables on p ≡ 0) ⊎ (lookup_number S tables on p ≡ 15)
-unfolding lookup_number toward_number change_number alternate_number need if◌then◌else◌
+unfolding lookup_number toward_number change_number alternate_number need
 lookup_or S tables on p =
     let v : ℕ = tables.next p.topology p.place p.destination in
     let w : ℕ = tables.next (home S v) p.place p.destination in
@@ -316,7 +317,7 @@ module _ (P : ℕ → ℕ → Type 0) where
       (failure_tells h f (λ n. g (λ k. n k.failure))))))
 
   source_tells : (u : ℕ) (f : Failure) → ((Standing u f → ⊥) → P 12 0) → Tells (source_number u f) (λ x. P x 0)
-  unfolding source_number if◌then◌else◌
+  unfolding source_number
   source_tells u Nothing g = nothing_told (λ x. P x 0)
   source_tells u (Link l) g = nothing_told (λ x. P x 0)
   source_tells u (Node v) g = go (eqb v u) refl

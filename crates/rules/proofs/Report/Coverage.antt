@@ -1,5 +1,6 @@
 -- Coverage: the report has one line for each ordered pair of different nodes, in order, none twice and none missing; each line is what the run does;
 -- and both ends of every link have theirs.
+use Rattle.std.specs.Prelude.{if◌then◌else◌}
 use mathlib.Core.Path.{◌≡◌, refl, sym, ap, ap₂, subst, ◌∙◌}
 use mathlib.Core.Bool.{Bool, true, false}
 use mathlib.Core.Logic.{◌⊎◌, inl, inr}
@@ -11,7 +12,7 @@ use lib.Arith.{digits_div, digits_mod}
 use lib.Dec.{eqb, ltb}
 use lib.ListN.{get_or}
 use borrow.Author.Tests.{eq-eqb, ne_eqb, lt-ltb, le-ltb, ltb-true, ltb-false}
-use Rattle.rules.specs.Basics.{if◌then◌else◌, flat}
+use Rattle.rules.specs.Basics.{flat}
 use Rattle.rules.specs.File.{Set}
 use Rattle.rules.specs.Report.{detection_line, detection_lines}
 use Rattle.rules.specs.Sets.{AcceptedSet}

@@ -1,5 +1,6 @@
 -- 02, a: the extra hops of a line. A path over the link to the next hop, or round it, has at least one hop and at most n - 1, which bounds their difference on both
 -- sides. Where the kind is S or D that next hop is the destination: one hop leads there with nothing down, and two at least with its link down.
+use Rattle.std.specs.Prelude.{if◌then◌else◌}
 use mathlib.Core.Path.{◌≡◌, refl, sym, ap, subst, ◌∙◌}
 use mathlib.Core.Bool.{Bool, true, true≢false}
 use mathlib.Core.List.{List, [], ◌∷◌, ◌++◌, append_assoc}
@@ -17,7 +18,6 @@ use Rattle.rules.specs.declared.Kind.TheVariants as change
 use Rattle.rules.specs.declared.Step.{Step}
 use Rattle.rules.specs.declared.Step.TheVariants.{Delivered, Moved, Dropped}
 use Rattle.rules.specs.declared.Outcome.TheVariants as ended
-use Rattle.rules.specs.Basics.{if◌then◌else◌}
 use Rattle.rules.specs.Limits.{most_hops}
 use Rattle.rules.specs.File.{Set}
 use Rattle.rules.specs.Isolation.{neighbours, home}
@@ -39,7 +39,7 @@ use Rattle.rules.proofs.Report.Lines.{Changes, detected, detection_changes}
 
 -- a run from where the packet is to go makes no hop
 there_already : (S : Set) (on : ℕ → ℕ → Bool) (h v t : ℕ) → v ≡ t → length (run S (tables_of S) on h (packet v t 0)).visited ≡ 0
-unfolding run step after_step stop if◌then◌else◌
+unfolding run step after_step stop
 there_already S on zero v t e = rw (eq-eqb v t e) refl
 there_already S on (suc h) v t e = rw (eq-eqb v t e) refl
 

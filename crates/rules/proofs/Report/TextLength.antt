@@ -1,5 +1,6 @@
 -- A report fits its room: every number of a line is below 100, the extra hops above -100, so they have at most two digits and a minus sign; and the count of the
 -- last line is below 1,000.
+use Rattle.std.specs.Prelude.{if◌then◌else◌}
 use mathlib.Core.Path.{◌≡◌, refl, sym, ap, subst, ◌∙◌}
 use mathlib.Core.Bool.{Bool, true, false}
 use mathlib.Core.List.{List, [], ◌∷◌, ◌++◌}
@@ -11,7 +12,7 @@ use lib.IntN.{ℤ, pos, ◌-ℤ◌}
 use lib.ListN.{length, length-append}
 use borrow.Author.Tests.{lt-ltb, le-ltb, eq-eqb, ltb-true, ltb-false, eqb-true, eqb-false}
 use Rattle.rules.specs.declared.Step.{Step}
-use Rattle.rules.specs.Basics.{if◌then◌else◌, flat}
+use Rattle.rules.specs.Basics.{flat}
 use Rattle.rules.specs.Limits.{most_hops, report_line, report_last, largest, report_room}
 use Rattle.rules.specs.File.{Set}
 use Rattle.rules.specs.Distance.{next_hop}

@@ -1,10 +1,10 @@
 -- Demand 3, of the builder. "Our builder, allowed n topologies, succeeds exactly when removing any one router leaves the others connected." Then what the graph of
 -- every accepted set is.
-use Rattle.std.specs.Prelude.{◌≡◌, ◌↔◌, Bool, true, not, ◌&&◌, List, ℕ, ◌≤◌, ◌<◌, eqb, ltb, length, set}
+use Rattle.std.specs.Prelude.{◌≡◌, ◌↔◌, Bool, true, not, ◌&&◌, List, ℕ, ◌≤◌, ◌<◌, eqb, ltb, length, set, if◌then◌else◌}
 use Rattle.rules.specs.declared.Network.{Network}
 use Rattle.rules.specs.declared.LengthAnswer.{LengthAnswer}
 use Rattle.rules.specs.declared.LengthAnswer.TheVariants as long
-use Rattle.rules.specs.Basics.{if◌then◌else◌, up_to}
+use Rattle.rules.specs.Basics.{up_to}
 use Rattle.rules.specs.Limits.{file_length}
 use Rattle.rules.specs.File.{Set, encode}
 use Rattle.rules.specs.Isolation.{neighbours, home, isolated, Normal, class, row_in_force}

@@ -1,11 +1,11 @@
 -- Demand 3, of the entry `report`: what it accepts, what it then answers and leaves, and that its lines cover every detection. Then 02's request a: the extra hops
 -- of its lines.
-use Rattle.std.specs.Prelude.{◌≡◌, ◌⊎◌, List, ◌∷◌, ◌++◌, ℕ, suc, ◌-◌, ◌*◌, ◌/◌, ◌%◌, ◌≤◌, ◌<◌, ltb, pos, neg_ℤ, nat_abs, ◌+ℤ◌, length, ◌≤ℤ◌, ◌<ℤ◌}
+use Rattle.std.specs.Prelude.{◌≡◌, ◌⊎◌, List, ◌∷◌, ◌++◌, ℕ, suc, ◌-◌, ◌*◌, ◌/◌, ◌%◌, ◌≤◌, ◌<◌, ltb, pos, neg_ℤ, nat_abs, ◌+ℤ◌, length, ◌≤ℤ◌, ◌<ℤ◌, if◌then◌else◌}
 use Rattle.rules.specs.declared.Kind.TheVariants as change
 use Rattle.rules.specs.declared.Step.TheVariants.{Moved}
 use Rattle.rules.specs.declared.LengthAnswer.{LengthAnswer}
 use Rattle.rules.specs.declared.LengthAnswer.TheVariants as long
-use Rattle.rules.specs.Basics.{if◌then◌else◌, flat}
+use Rattle.rules.specs.Basics.{flat}
 use Rattle.rules.specs.Limits.{longest}
 use Rattle.rules.specs.File.{Set}
 use Rattle.rules.specs.Forwarding.{link, packet, Run, run_under}
