@@ -34,6 +34,7 @@ pub fn argument_count<E: Env>(environment: &E) -> usize {
 }
 
 // Reads until the room is full or the input ends, and returns how many bytes stand at the start of the room. Nothing past the room is read.
+// Rules out: the length of an input that the room does not hold; a count from one read twice, past the end of the room.
 pub fn read_full<R: Read>(input: &mut R, room: &mut [u8]) -> io::Result<usize>
     ensures { IfOk result (λ long. long ≤ length room.new) }
 {
