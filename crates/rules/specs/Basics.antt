@@ -1,4 +1,4 @@
--- The few words of these definitions that are not 01's: a choice, tests in order, all and any, how many, the lowest, the least, and lists by index.
+-- The few words of these definitions that are not 01's: tests in order, all and any, how many, the lowest, the least, and lists by index.
 use Rattle.std.specs.Prelude.{Bool, true, false, ◌&&◌, ◌||◌, List, [], ◌∷◌, ◌++◌, ℕ, zero, suc, ◌+◌, min, length, drop, if◌then◌else◌}
 
 -- a test that is needed: where it holds the rest decides, where it does not this refusal number stands. 0 is no refusal
