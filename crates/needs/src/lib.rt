@@ -65,6 +65,7 @@ pub fn need_graph(net: Network) -> Verdict
 
 // 11: a cap of 1 to 32 is needed.
 // Rules out: 11 for a cap of 4 `a_cap_of_4_refused`; a cap of 0 accepted.
+#[tactic(auto, using(crate::proofs::Laws::orders))]
 pub fn need_cap(cap: u8) -> Verdict
     ensures { result ≡ need_cap cap }
 {

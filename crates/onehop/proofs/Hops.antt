@@ -104,6 +104,11 @@ module _ (s tables : List ℕ) (f : Failure) (p : Packet) where
   unfolding blocked
   blocked_first v d r e z q = q ∙ change_along (set_of s) (tables_at s tables) (on s f) p v d e ∙ sym (if_yes (eqb p.topology 0) _ _ (eq-eqb p.topology 0 z))
 
+  -- the same as one equation, along the detour itself
+  pub blocked_along : (v : ℕ) → p.topology ≡ 0 → blocked (set_of s) (tables_at s tables) (on s f) p v
+      ≡ move_or_drop (on s f) p (detour_of (set_of s) (tables_at s tables) p.place p.destination v).next (detour_of (set_of s) (tables_at s tables) p.place p.destination v).topology (detour_of (set_of s) (tables_at s tables) p.place p.destination v).kind
+  blocked_along v z = sym (blocked_first v _ _ refl z refl)
+
   pub blocked_later : (v : ℕ) → (p.topology ≡ 0 → ⊥) → Dropped p ≡ blocked (set_of s) (tables_at s tables) (on s f) p v
   unfolding blocked
   blocked_later v e = sym (if_no (eqb p.topology 0) _ _ (ne_eqb p.topology 0 e))
@@ -126,6 +131,9 @@ module _ (s tables : List ℕ) (f : Failure) (p : Packet) where
   step_onward h v r n e d q =
       q ∙ ap (toward (set_of s) (tables_at s tables) (on s f) p) (next_is s tables h n p.topology p.place p.destination v d)
       ∙ sym (if_no (eqb p.place p.destination) _ _ (ne_eqb p.place p.destination e))
+
+-- a blocked packet: it changes out of topology 0, and out of no other
+pub ruleset blocks = (blocked_along, blocked_later)
 
 pub ruleset hop = (entry_is, move_up, move_down, kind_same, kind_other, detour_back, detour_there, detour_is, blocked_first, blocked_later, toward_up, toward_down, step_there, step_onward)
 

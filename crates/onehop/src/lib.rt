@@ -124,6 +124,7 @@ pub fn detour(file: &[u8], net: Network, tables: &[u8], u: u8, t: u8, v: u8) -> 
 }
 
 // v is the next hop, and the hop to it is down.
+#[tactic(auto, using(crate::proofs::Hops::blocks))]
 fn blocked(file: &[u8], net: Network, tables: &[u8], failure: Failure, p: Packet, v: u8) -> Step
     requires { Judged file.now net }
     ensures { result ≡ blocked (set_of file.now) (tables_at file.now tables.now) (on file.now failure) p v }

@@ -38,7 +38,7 @@ use Rattle.text.specs.Text.{Wrote, labelled_room}
 use Rattle.detections.specs.Detection.{Ready}
 use Rattle.lines.specs.Lines.{text_room}
 use Rattle.report.specs.Answer.{refusal_room, Made, Says, it, line, Printed}
-use Rattle.text.proofs.Texts.{wrote_laid, wrote_then}
+use Rattle.text.proofs.Texts.{put_front, wrote_laid, wrote_then}
 
 -- ---- room for the longest tables, and for the longest report
 
@@ -103,25 +103,10 @@ module _ (s : List ℕ) where
 
   -- ---- its text into lent room
 
-  fits : take_set s ≡ Accepted → length (report_text (set_of s)) ≤ report_room (header_of s)
+  pub fits : take_set s ≡ Accepted → length (report_text (set_of s)) ≤ report_room (header_of s)
   fits c = subst (λ (h : Network). length (report_text (set_of s)) ≤ report_room h) (net_held s) (text_fits (set_of s) (set_accepted s c))
 
-  -- a text that was written where there is room for it
-  wrote_copied : (old new : List ℕ) (r : ℕ) → length (report_text (set_of s)) ≤ length old → Wrote old 0 (report_text (set_of s)) text_room r new → Copied (report_text (set_of s)) old (long.Length r) new
-  unfolding length_tells tell on_accept
-  wrote_copied old new r l w =
-      let v = room_ok (length (report_text (set_of s))) old l in
-      record {
-        answer = rw v (ap (λ (x : ℕ). accepted (x ∷ [])) (w.on ∙ zero-add (length (report_text (set_of s)))));
-        lent = rw v (wrote_laid old new (report_text (set_of s)) text_room r w l);
-      }
-
   module _ (net : Network) (tables : List ℕ) (R : Ready s net tables) where
-    pub written_whole : (old new : List ℕ) (r enough : ℕ) → enough ≡ report_room net → enough ≤ length old → Wrote old 0 (report_text (set_of s)) text_room r new → Copied (report_text (set_of s)) old (long.Length r) new
-    written_whole old new r enough e l w =
-        let h : report_room net ≡ report_room (header_of s) = ap report_room R.header in
-        wrote_copied old new r (omega (arith, fits R.accepted)) w
-
     module _ (zeros own : List ℕ) (r : ℕ) (room : Room longest.report zeros) (w : Wrote zeros 0 (report_text (set_of s)) text_room r own) where
       whole : length (report_text (set_of s)) ≤ length zeros
       whole = omega (arith, room.long, report_fits (set_of s) (set_accepted s R.accepted))
@@ -215,4 +200,16 @@ says_refusal answer old new number place r e w = line number place e w
 pub one_print : (s old new new' : List ℕ) (r r' : ℕ) → Printed s old r new → Printed s old r' new' → (r ≡ r') × (new ≡ new')
 one_print s old new new' r r' p q = (p.long ∙ sym q.long, p.is ∙ sym q.is)
 
-pub ruleset answers = (array_long, made_all, made_few, few_enough, made_ready, written_whole, apart_inside, apart_copied, reported, made_refused, refusal_of, printed_of, says_report, says_refusal)
+-- a text that fits the lent room: what the answer then tells, and what the room then has
+pub copied_tells : (bytes : ℕ) (old : List ℕ) → bytes ≤ length old → tell (need_room bytes old) (bytes ∷ []) ≡ length_tells (long.Length bytes)
+unfolding length_tells tell
+copied_tells bytes old l = rw (room_ok bytes old l)
+
+pub copied_leaves : (bytes old : List ℕ) → length bytes ≤ length old → on_accept (need_room (length bytes) old) (laid bytes old) old ≡ laid bytes old
+unfolding on_accept
+copied_leaves bytes old l = rw (room_ok (length bytes) old l)
+
+-- a text that is written straight into lent room
+pub ruleset straight = (fits, copied_tells, copied_leaves, put_front)
+
+pub ruleset answers = (array_long, made_all, made_few, few_enough, made_ready, apart_inside, apart_copied, reported, made_refused, refusal_of, printed_of, says_report, says_refusal)

@@ -36,6 +36,7 @@ fn apart(file: &[u8], net: Network, tables: &[u8], text: &mut [u8]) -> LengthAns
 
 // The text, or 14. Where every report on so many nodes fits it is written straight into the lent room: to clear room for the longest
 // costs more than a small report.
+#[tactic(auto, using(crate::proofs::Answers::straight))]
 fn text_into(file: &[u8], net: Network, tables: &[u8], text: &mut [u8]) -> LengthAnswer
     requires { Ready file.now net tables.now }
     ensures { Copied (report_text (set_of file.now)) text.old result text.new }
