@@ -106,7 +106,22 @@ module _ (s : List ℕ) where
   pub fits : take_set s ≡ Accepted → length (report_text (set_of s)) ≤ report_room (header_of s)
   fits c = subst (λ (h : Network). length (report_text (set_of s)) ≤ report_room h) (net_held s) (text_fits (set_of s) (set_accepted s c))
 
+  -- a text that was written where there is room for it
+  wrote_copied : (old new : List ℕ) (r : ℕ) → length (report_text (set_of s)) ≤ length old → Wrote old 0 (report_text (set_of s)) text_room r new → Copied (report_text (set_of s)) old (long.Length r) new
+  unfolding length_tells tell on_accept
+  wrote_copied old new r l w =
+      let v = room_ok (length (report_text (set_of s))) old l in
+      record {
+        answer = rw v (ap (λ (x : ℕ). accepted (x ∷ [])) (w.on ∙ zero-add (length (report_text (set_of s)))));
+        lent = rw v (wrote_laid old new (report_text (set_of s)) text_room r w l);
+      }
+
   module _ (net : Network) (tables : List ℕ) (R : Ready s net tables) where
+    pub written_whole : (old new : List ℕ) (r enough : ℕ) → enough ≡ report_room net → enough ≤ length old → Wrote old 0 (report_text (set_of s)) text_room r new → Copied (report_text (set_of s)) old (long.Length r) new
+    written_whole old new r enough e l w =
+        let h : report_room net ≡ report_room (header_of s) = ap report_room R.header in
+        wrote_copied old new r (omega (arith, fits R.accepted)) w
+
     module _ (zeros own : List ℕ) (r : ℕ) (room : Room longest.report zeros) (w : Wrote zeros 0 (report_text (set_of s)) text_room r own) where
       whole : length (report_text (set_of s)) ≤ length zeros
       whole = omega (arith, room.long, report_fits (set_of s) (set_accepted s R.accepted))
@@ -212,4 +227,4 @@ copied_leaves bytes old l = rw (room_ok (length bytes) old l)
 -- a text that is written straight into lent room
 pub ruleset straight = (fits, copied_tells, copied_leaves, put_front)
 
-pub ruleset answers = (array_long, made_all, made_few, few_enough, made_ready, apart_inside, apart_copied, reported, made_refused, refusal_of, printed_of, says_report, says_refusal)
+pub ruleset answers = (array_long, made_all, made_few, few_enough, made_ready, written_whole, apart_inside, apart_copied, reported, made_refused, refusal_of, printed_of, says_report, says_refusal)

@@ -37,6 +37,7 @@ wrote_as old new at r most xs ys e w = subst (λ (l : List ℕ). Wrote old at l 
 pub put_front : (bytes old : List ℕ) → length bytes ≤ length old → put old 0 bytes ≡ laid bytes old
 put_front bytes old h = put_laid bytes old h
 
+-- the same of a text that was written
 pub wrote_laid : (old new bytes : List ℕ) (most r : ℕ) → Wrote old 0 bytes most r new → length bytes ≤ length old → new ≡ laid bytes old
 wrote_laid old new bytes most r w h = w.is ∙ put_laid bytes old h
 
