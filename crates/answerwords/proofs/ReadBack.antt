@@ -1,5 +1,4 @@
 -- What C reads from a word is what the entry tells: bit 63 is clear exactly where it accepts, and number, place and every value come back.
-use Rattle.std.specs.Prelude.{if◌then◌else◌}
 use mathlib.Core.Path.{◌≡◌, refl, sym, ap, ap₂, subst, ◌∙◌}
 use mathlib.Core.Logic.{◌↔◌}
 use mathlib.Core.Bool.{true, false, true≢false}

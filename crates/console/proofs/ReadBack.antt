@@ -1,5 +1,4 @@
 -- A number from 0 to 255 that is written in decimal, as the programs write them, is read back as itself.
-use Rattle.std.specs.Prelude.{if◌then◌else◌}
 use mathlib.Core.Path.{◌≡◌, refl, sym, ap, ◌∙◌}
 use mathlib.Core.Bool.{Bool, true, not, ◌&&◌}
 use Prim.Native.Nat.{ℕ, ◌≤◌}

@@ -1,5 +1,4 @@
 -- Laws of links: the link between two nodes, its class by their homes, and the weight of the hop, for a set that meets the rules.
-use Rattle.std.specs.Prelude.{if◌then◌else◌}
 use mathlib.Core.Path.{◌≡◌, refl, ap, ap₂, ◌∙◌}
 use mathlib.Core.Logic.{◌⊎◌, inl, inr, ⊎_elim}
 use mathlib.Core.Bool.{Bool, true, false, ◌&&◌}

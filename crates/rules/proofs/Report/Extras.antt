@@ -1,6 +1,5 @@
 -- 02, a: the extra hops of a line. A path over the link to the next hop, or round it, has at least one hop and at most n - 1, which bounds their difference on both
 -- sides. Where the kind is S or D that next hop is the destination: one hop leads there with nothing down, and two at least with its link down.
-use Rattle.std.specs.Prelude.{if◌then◌else◌}
 use mathlib.Core.Path.{◌≡◌, refl, sym, ap, subst, ◌∙◌}
 use mathlib.Core.Bool.{Bool, true, true≢false}
 use mathlib.Core.List.{List, [], ◌∷◌, ◌++◌, append_assoc}
