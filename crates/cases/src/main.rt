@@ -37,7 +37,7 @@ use phrases::show;
 use rooms::file_and_one;
 use std::fs::File;
 use std::io;
-use std::io::{BufWriter, Read, Write};
+use std::io::{Read, Write};
 use std::rt::Files;
 use wording::asked::own_words;
 use wording::{NONE, byte, change, least, part, word};
@@ -129,7 +129,5 @@ fn each_line<R: Files, W: Write>(files: &R, out: &mut W, list: &[u8]) -> io::Res
 fn main(rt: HostRuntime) -> io::Result<()> {
     let mut list = room::zeros();
     let long = stored(&rt, b"cases", &mut list);
-    let mut out = BufWriter::new(rt.alloc(), io::writer(&rt))?;
-    each_line(&rt, &mut out, part(&list, 0, long))?;
-    out.flush()
+    each_line(&rt, &mut rt.stdout(), part(&list, 0, long))
 }
