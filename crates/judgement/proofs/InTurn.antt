@@ -33,16 +33,16 @@ need_under false number rest rest' h = refl
 
 -- ---- records in turn, by number and place
 
-module _ (number_of_lem place_of : ℕ → ℕ) (i number : ℕ) where
-  pub turn_taken : in_turn (judged number_of_lem place_of) i ≡ Accepted → number ≡ number_of_lem i → number ≡ 0 → in_turn (judged number_of_lem place_of) (i + 1) ≡ Accepted
+module _ (number_at place_of : ℕ → ℕ) (i number : ℕ) where
+  pub turn_taken : in_turn (judged number_at place_of) i ≡ Accepted → number ≡ number_at i → number ≡ 0 → in_turn (judged number_at place_of) (i + 1) ≡ Accepted
   unfolding judged
-  turn_taken h e t = turn_more (judged number_of_lem place_of) i h (sym (refuse_ok (number_of_lem i) (place_of i) (sym e ∙ t)))
+  turn_taken h e t = turn_more (judged number_at place_of) i h (sym (refuse_ok (number_at i) (place_of i) (sym e ∙ t)))
 
-  pub turn_refused : (m place : ℕ) → in_turn (judged number_of_lem place_of) i ≡ Accepted → number ≡ number_of_lem i → place ≡ place_of i → (number ≡ 0 → ⊥) → i < m
-      → Refused number place ≡ in_turn (judged number_of_lem place_of) m
+  pub turn_refused : (m place : ℕ) → in_turn (judged number_at place_of) i ≡ Accepted → number ≡ number_at i → place ≡ place_of i → (number ≡ 0 → ⊥) → i < m
+      → Refused number place ≡ in_turn (judged number_at place_of) m
   unfolding judged
   turn_refused m place h e p t l =
-      sym (turn_stop (judged number_of_lem place_of) i m number place l h (rw (← e, ← p) (sym (refuse_no number place t))))
+      sym (turn_stop (judged number_at place_of) i m number place l h (rw (← e, ← p) (sym (refuse_no number place t))))
 
 -- ---- the header
 

@@ -3,7 +3,7 @@
 // Each function promises the entry, or the whole slice after the store.
 #![tactic(auto)]
 
-pub mod store; // store.rt: bytes, and numbers of two bytes
+pub mod store; // store.rt: bytes, numbers of two bytes, and another slice at the front
 
 ghost use Rattle.std.specs.Prelude.{◌≡◌, ◌+◌, ◌<◌, length, get_or};
 ghost use Rattle.rules.specs.File.{two};

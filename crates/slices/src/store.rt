@@ -1,4 +1,4 @@
-// Stores: each promises the slice with these bytes from `at` on, as far as it reaches.
+// Stores: each promises the slice with these bytes from `at` on, as far as it reaches; `copy` the slice with all of another at its front.
 ghost use Rattle.std.specs.Prelude.{◌≡◌, [], ◌∷◌, ◌++◌, ◌+◌, ◌≤◌, ◌<◌, length, drop};
 ghost use Rattle.rules.specs.File.{bytes2};
 ghost use Rattle.slices.specs.Stores.{put};
