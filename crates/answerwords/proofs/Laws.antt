@@ -1,4 +1,5 @@
 -- Answers as words.
+use Rattle.std.specs.Prelude.{Ok}
 use mathlib.Core.Path.{◌≡◌, ◌∙◌}
 use mathlib.Core.List.{[], ◌∷◌}
 use Prim.Native.Nat.{ℕ, ◌+◌, ◌*◌, ◌≤◌, ◌<◌}
@@ -13,38 +14,30 @@ use Rattle.rules.specs.declared.Outcome.{Outcome}
 use Rattle.rules.specs.declared.Outcome.TheVariants as ended
 use Rattle.rules.specs.declared.Step.{Step}
 use Rattle.rules.specs.declared.Step.TheVariants.{Delivered, Moved, Dropped}
-use Rattle.rules.specs.declared.ReadAnswer.{ReadAnswer}
-use Rattle.rules.specs.declared.ReadAnswer.TheVariants as read
-use Rattle.rules.specs.declared.LengthAnswer.{LengthAnswer}
-use Rattle.rules.specs.declared.LengthAnswer.TheVariants as long
-use Rattle.rules.specs.declared.StepAnswer.{StepAnswer}
-use Rattle.rules.specs.declared.StepAnswer.TheVariants as stepped
-use Rattle.rules.specs.declared.RunAnswer.{RunAnswer}
-use Rattle.rules.specs.declared.RunAnswer.TheVariants as ran
 use Rattle.rules.specs.Forwarding.{letter}
-use Rattle.rules.specs.Answers.{header_values, read_tells, length_tells, outcome_value, packet_values, step_values, step_tells, journey_values, run_tells}
+use Rattle.rules.specs.Answers.{ReadAnswer, LengthAnswer, StepAnswer, RunAnswer, header_values, read_tells, length_tells, outcome_value, packet_values, step_values, step_tells, journey_values, run_tells, tells}
 use Rattle.answerwords.specs.Words.{refused_word, pack, word_of, by_length, by_read, by_step, by_run, failure_of}
 
 -- ---- words
 
-pub length_given : (a : LengthAnswer) (bytes : ℕ) → a ≡ long.Length bytes → bytes ≡ word_of by_length (length_tells a)
-unfolding word_of length_tells pack
+pub length_given : (a : LengthAnswer) (bytes : ℕ) → a ≡ Ok bytes → bytes ≡ word_of by_length (length_tells a)
+unfolding word_of tells pack
 length_given a bytes e = rw e (omega arith)
 
 pub length_refused : (a : LengthAnswer) (number place w : ℕ) → a ≡ long.Refused number place → w ≡ refused_word number place → w ≡ word_of by_length (length_tells a)
-unfolding word_of length_tells
+unfolding word_of tells
 length_refused a number place w e d = d ∙ rw e
 
 pub header_is : (h : Network) → h.n + 256 * (h.m + 65536 * (h.k + 256 * h.wmax)) ≡ pack by_read (h.n ∷ h.m ∷ h.k ∷ h.wmax ∷ [])
 unfolding pack
 header_is h = omega arith
 
-pub read_given : (a : ReadAnswer) (h : Network) (w : ℕ) → a ≡ read.Read h → w ≡ pack by_read (h.n ∷ h.m ∷ h.k ∷ h.wmax ∷ []) → w ≡ word_of by_read (read_tells a)
-unfolding word_of read_tells header_values
+pub read_given : (a : ReadAnswer) (h : Network) (w : ℕ) → a ≡ Ok h → w ≡ pack by_read (h.n ∷ h.m ∷ h.k ∷ h.wmax ∷ []) → w ≡ word_of by_read (read_tells a)
+unfolding word_of tells header_values
 read_given a h w e d = d ∙ rw e
 
 pub read_refused : (a : ReadAnswer) (number place w : ℕ) → a ≡ read.Refused number place → w ≡ refused_word number place → w ≡ word_of by_read (read_tells a)
-unfolding word_of read_tells
+unfolding word_of tells
 read_refused a number place w e d = d ∙ rw e
 
 -- ---- outcomes
@@ -83,24 +76,24 @@ pub step_dropped : (s : Step) (p : Packet) (w : ℕ) → s ≡ Dropped p → w �
 unfolding step_values packet_values
 step_dropped s p w e d = d ∙ rw e
 
-pub step_taken : (a : StepAnswer) (s : Step) (w : ℕ) → a ≡ stepped.Taken s → w ≡ pack by_step (step_values s) → w ≡ word_of by_step (step_tells a)
-unfolding word_of step_tells
+pub step_taken : (a : StepAnswer) (s : Step) (w : ℕ) → a ≡ Ok s → w ≡ pack by_step (step_values s) → w ≡ word_of by_step (step_tells a)
+unfolding word_of tells
 step_taken a s w e d = d ∙ rw e
 
 pub step_refused : (a : StepAnswer) (number place w : ℕ) → a ≡ stepped.Refused number place → w ≡ refused_word number place → w ≡ word_of by_step (step_tells a)
-unfolding word_of step_tells
+unfolding word_of tells
 step_refused a number place w e d = d ∙ rw e
 
 pub journey_is : (j : Journey) (x y : ℕ) → x ≡ outcome_value j.outcome → y ≡ letter j.kind → x + 256 * (j.hops + 256 * (j.topology + 256 * y)) ≡ pack by_run (journey_values j)
 unfolding pack journey_values
 journey_is j x y e d = rw (← e, ← d) (omega arith)
 
-pub run_ended : (a : RunAnswer) (j : Journey) (w : ℕ) → a ≡ ran.Ended j → w ≡ pack by_run (journey_values j) → w ≡ word_of by_run (run_tells a)
-unfolding word_of run_tells
+pub run_ended : (a : RunAnswer) (j : Journey) (w : ℕ) → a ≡ Ok j → w ≡ pack by_run (journey_values j) → w ≡ word_of by_run (run_tells a)
+unfolding word_of tells
 run_ended a j w e d = d ∙ rw e
 
 pub run_refused : (a : RunAnswer) (number place w : ℕ) → a ≡ ran.Refused number place → w ≡ refused_word number place → w ≡ word_of by_run (run_tells a)
-unfolding word_of run_tells
+unfolding word_of tells
 run_refused a number place w e d = d ∙ rw e
 
 -- ---- what is down

@@ -1,17 +1,15 @@
 -- A text into any room.
+use Rattle.std.specs.Prelude.{Ok}
 use mathlib.Core.Path.{◌≡◌, sym, ap, ◌∙◌}
 use mathlib.Core.List.{List, [], ◌∷◌, ◌++◌}
 use Prim.Native.Nat.{ℕ, ◌≤◌}
 use lib.Dec.{leb}
 use lib.ListN.{length, take, drop}
 use lib.Seq.{length-take-le}
-use Rattle.rules.specs.declared.Verdict.{Verdict}
-use Rattle.rules.specs.declared.Verdict.TheVariants.{Accepted, Refused}
-use Rattle.rules.specs.declared.LengthAnswer.{LengthAnswer}
-use Rattle.rules.specs.declared.LengthAnswer.TheVariants as long
+use Rattle.rules.specs.Verdict.{Verdict, Accepted, Refused}
 use Rattle.rules.specs.Basics.{need, laid}
 use Rattle.rules.specs.Judgement.{refuse, need_room}
-use Rattle.rules.specs.Answers.{accepted, tell, length_tells}
+use Rattle.rules.specs.Answers.{LengthAnswer, accepted, tell, length_tells, tells}
 use Rattle.rules.specs.Entries.Entry.{on_accept}
 use Rattle.rules.proofs.Ground.Rows.{prefix_long}
 use Rattle.rules.proofs.Entries.Determined.{length_one}
@@ -32,13 +30,13 @@ module _ (made before : List ℕ) (n : ℕ) (w : Verdict) (h : n ≤ length made
   copy_fits t = room_long (length (take n made)) before (room_is ∙ t)
 
   pub copied_refused : (number place : ℕ) → w ≡ Refused number place → Copied (take n made) before (long.Refused number place) before
-  unfolding length_tells tell on_accept
+  unfolding tells tell on_accept
   copied_refused number place t =
       let same : need_room (length (take n made)) before ≡ Refused number place = room_is ∙ t in
       record { answer = rw same; lent = rw same }
 
-  pub copied_whole : (bytes : ℕ) (after : List ℕ) → w ≡ Accepted → bytes ≡ length (take n made) → after ≡ take n made ++ drop (length (take n made)) before → Copied (take n made) before (long.Length bytes) after
-  unfolding length_tells tell on_accept laid
+  pub copied_whole : (bytes : ℕ) (after : List ℕ) → w ≡ Accepted → bytes ≡ length (take n made) → after ≡ take n made ++ drop (length (take n made)) before → Copied (take n made) before (Ok bytes) after
+  unfolding tells tell on_accept laid
   copied_whole bytes after t eb ea =
       let same : need_room (length (take n made)) before ≡ Accepted = room_is ∙ t in
       record { answer = rw same (ap (λ (x : ℕ). accepted (x ∷ [])) eb); lent = rw same ea }

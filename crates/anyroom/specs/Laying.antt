@@ -1,9 +1,8 @@
 -- A text that was made in room of its own, laid into the room that is lent.
 use Rattle.std.specs.Prelude.{◌≡◌, List, [], ◌∷◌, ℕ, length}
-use Rattle.rules.specs.declared.LengthAnswer.{LengthAnswer}
 use Rattle.rules.specs.Basics.{laid}
 use Rattle.rules.specs.Judgement.{need_room}
-use Rattle.rules.specs.Answers.{tell, length_tells}
+use Rattle.rules.specs.Answers.{LengthAnswer, tell, length_tells}
 use Rattle.rules.specs.Entries.Entry.{on_accept}
 
 -- bytes at the front of lent room, and how many they are; 14 and the room as it came where that is too short

@@ -1,4 +1,5 @@
 -- What the builder answers and leaves, verdict by verdict.
+use Rattle.std.specs.Prelude.{Ok}
 use mathlib.Core.Path.{◌≡◌, refl, sym, ap, subst, ◌∙◌}
 use mathlib.Core.Bool.{Bool, true, false}
 use mathlib.Core.List.{List, [], ◌∷◌}
@@ -8,16 +9,13 @@ use lib.Dec.{leb}
 use lib.ListN.{length, take, replicate, length-replicate}
 use borrow.Author.Tests.{leb-true}
 use Rattle.rules.specs.declared.Network.{Network}
-use Rattle.rules.specs.declared.Verdict.{Verdict}
-use Rattle.rules.specs.declared.Verdict.TheVariants.{Accepted, Refused}
-use Rattle.rules.specs.declared.LengthAnswer.{LengthAnswer}
-use Rattle.rules.specs.declared.LengthAnswer.TheVariants as long
+use Rattle.rules.specs.Verdict.{Verdict, Accepted, Refused}
 use Rattle.rules.specs.Basics.{need, all, laid}
 use Rattle.rules.specs.Limits.{file_length}
 use Rattle.rules.specs.File.{Set, encode, header_of, set_of}
 use Rattle.rules.specs.Building.{first_fit, highest, filled, built, spared, build_number}
 use Rattle.rules.specs.Judgement.{refuse, and_then, judge, take_in, need_graph, need_cap, need_fit, need_room}
-use Rattle.rules.specs.Answers.{tell, length_tells}
+use Rattle.rules.specs.Answers.{LengthAnswer, tell, length_tells, tells}
 use Rattle.rules.specs.Entries.Entry.{on_accept, Promise}
 use Rattle.rules.specs.Entries.Build.{built_from, build_entry}
 use Rattle.rules.proofs.Ground.Choices.{need_yes, need_no, need_ok, refuse_no, refuse_ok, refuse_zero, then_ok, then_no, then_first, then_second, then_assoc}
@@ -41,12 +39,12 @@ use Rattle.filling.proofs.Written.{written_is}
 -- ---- the two ways of an answer
 
 gives_refused : (v : Verdict) (S : Set) (d : List ℕ) (number place : ℕ) → v ≡ Refused number place → Gives v S d (long.Refused number place) d
-unfolding length_tells tell on_accept
+unfolding tells tell on_accept
 gives_refused v S d number place e = rw e (record { answer = refl; lent = refl })
 
-gives_length : (v : Verdict) (S : Set) (d f : List ℕ) (bytes : ℕ) → v ≡ Accepted → bytes ≡ file_length S.net → f ≡ laid (encode S) d → Gives v S d (long.Length bytes) f
-unfolding length_tells tell on_accept
-gives_length v S d f bytes e b l = rw e (record { answer = ap (λ (x : ℕ). length_tells (long.Length x)) b; lent = l })
+gives_length : (v : Verdict) (S : Set) (d f : List ℕ) (bytes : ℕ) → v ≡ Accepted → bytes ≡ file_length S.net → f ≡ laid (encode S) d → Gives v S d (Ok bytes) f
+unfolding tells tell on_accept
+gives_length v S d f bytes e b l = rw e (record { answer = ap (λ (x : ℕ). length_tells (Ok x)) b; lent = l })
 
 gives_on : (v w : Verdict) (S : Set) (d : List ℕ) (r : LengthAnswer) (f : List ℕ) → v ≡ Accepted → Gives w S d r f → Gives (and_then v w) S d r f
 gives_on v w S d r f e g = rw (then_ok v w e) g
@@ -89,7 +87,7 @@ module _ (s homes d : List ℕ) (net set : Network) (k bytes : ℕ) (en : net �
   no_room v number place ev t = gives_refused _ (filled (set_of s) homes) d number place (sym (room_is v ev) ∙ t)
 
   pub room : (v : Verdict) (f : List ℕ) → v ≡ refuse (need (leb bytes (length d)) 14 0) 0 → v ≡ Accepted → f ≡ put d 0 (filled_file s homes set)
-      → Gives (need_room (file_length (filled (set_of s) homes).net) d) (filled (set_of s) homes) d (long.Length bytes) f
+      → Gives (need_room (file_length (filled (set_of s) homes).net) d) (filled (set_of s) homes) d (Ok bytes) f
   room v f ev t ef =
       gives_length _ (filled (set_of s) homes) d f bytes (sym (room_is v ev) ∙ t) long_is (ef ∙ written_is s homes d set set_is (room_there v ev t))
 

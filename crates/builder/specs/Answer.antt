@@ -1,13 +1,12 @@
 -- What a part of the builder answers and leaves: as an entry's promise, for the verdict of that part.
 use Rattle.std.specs.Prelude.{◌≡◌, List, [], ◌∷◌, ℕ}
-use Rattle.rules.specs.declared.Verdict.{Verdict}
-use Rattle.rules.specs.declared.LengthAnswer.{LengthAnswer}
+use Rattle.rules.specs.Verdict.{Verdict}
 use Rattle.rules.specs.Basics.{laid}
 use Rattle.rules.specs.Limits.{file_length}
 use Rattle.rules.specs.File.{Set, encode, set_of}
 use Rattle.rules.specs.Building.{filled, built}
 use Rattle.rules.specs.Judgement.{and_then, need_fit, need_room}
-use Rattle.rules.specs.Answers.{tell, length_tells}
+use Rattle.rules.specs.Answers.{LengthAnswer, tell, length_tells}
 use Rattle.rules.specs.Entries.Entry.{on_accept}
 
 -- by verdict v: the set's bytes at the front of the file and their length, or the refusal and the file as it came

@@ -5,7 +5,7 @@
 #![tactic(auto)]
 
 ghost use Rattle.std.specs.Prelude.{◌≡◌, ◌≤◌, length, replicate};
-ghost use Rattle.rules.specs.declared.Verdict.TheVariants.{Accepted};
+ghost use Rattle.rules.specs.Verdict.{Accepted};
 ghost use Rattle.rules.specs.Basics.{need};
 ghost use Rattle.rules.specs.File.{header_of};
 ghost use Rattle.rules.specs.Judgement.{and_then, judge, take_in, need_graph, need_cap};

@@ -1,7 +1,7 @@
 -- What a detecting node sees, by the file's own tables.
 use Rattle.std.specs.Prelude.{◌≡◌, List, ℕ, zero, suc, ◌≤◌, ◌<◌, eqb, get_or, if◌then◌else◌}
 use Rattle.rules.specs.declared.Network.{Network}
-use Rattle.rules.specs.declared.Verdict.TheVariants.{Accepted}
+use Rattle.rules.specs.Verdict.{Accepted}
 use Rattle.rules.specs.Basics.{laid}
 use Rattle.rules.specs.File.{Set, header_of, set_of}
 use Rattle.rules.specs.Distance.{next_hop, table_bytes}

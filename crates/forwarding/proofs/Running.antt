@@ -1,4 +1,5 @@
 -- The entry `run`.
+use Rattle.std.specs.Prelude.{Ok}
 use mathlib.Core.Path.{◌≡◌, refl, sym, ap, ap₂, ◌∙◌}
 use mathlib.Core.List.{List, ◌++◌}
 use Prim.Native.Nat.{ℕ, ◌≤◌, ◌<◌}
@@ -11,16 +12,14 @@ use Rattle.rules.specs.declared.Network.{Network}
 use Rattle.rules.specs.declared.Packet.{Packet}
 use Rattle.rules.specs.declared.Failure.{Failure}
 use Rattle.rules.specs.declared.Journey.{Journey}
-use Rattle.rules.specs.declared.RunAnswer.TheVariants as ran
-use Rattle.rules.specs.declared.Verdict.{Verdict}
-use Rattle.rules.specs.declared.Verdict.TheVariants.{Accepted, Refused}
+use Rattle.rules.specs.Verdict.{Verdict, Accepted, Refused}
 use Rattle.rules.specs.Basics.{need, laid}
 use Rattle.rules.specs.Limits.{tables_length, most_hops, trail_room}
 use Rattle.rules.specs.File.{header_of, set_of}
 use Rattle.rules.specs.Distance.{table_bytes}
 use Rattle.rules.specs.Forwarding.{fault_of, tables_of, lent_tables, packet, Run, trail, run, run_under}
 use Rattle.rules.specs.Judgement.{refuse, and_then, take_set, need_packet, need_source, need_room}
-use Rattle.rules.specs.Answers.{tell, journey_values, run_tells}
+use Rattle.rules.specs.Answers.{tell, journey_values, run_tells, tells}
 use Rattle.rules.specs.Entries.Entry.{on_accept, Promise}
 use Rattle.rules.specs.Entries.Run.{RunLent, run_of, run_values, run_entry}
 use Rattle.rules.specs.Sets.{WithinLimits}
@@ -121,14 +120,14 @@ module _ (s : List ℕ) (u t : ℕ) (f : Failure) (tables nodes : List ℕ) wher
       }
 
   pub run_ended : (v : Verdict) (j : Journey) (after : RunLent) → v ≡ Accepted → v ≡ run_verdict (run_input s u t f) (length tables) (length nodes) → Ran s (packet u t 0) f (run_lent tables nodes) j after
-      → Promise run_entry (run_input s u t f) (run_lent tables nodes) (ran.Ended j) after
-  unfolding run_entry run_tells run_of run_values journey_values journey_of tell on_accept
+      → Promise run_entry (run_input s u t f) (run_lent tables nodes) (Ok j) after
+  unfolding run_entry tells run_of run_values journey_values journey_of tell on_accept
   run_ended v j after e d R =
       let z : run_entry.verdict (run_input s u t f) (run_lent tables nodes) ≡ Accepted = verdict_same ∙ sym d ∙ e in
       record { answer = rw (z, R.answer); lent = rw z (λ i. record { tables = R.tables i; trail = R.trail i }) }
 
   pub run_refused : (v : Verdict) (number place : ℕ) → v ≡ Refused number place → v ≡ run_verdict (run_input s u t f) (length tables) (length nodes) → Promise run_entry (run_input s u t f) (run_lent tables nodes) (ran.Refused number place) (run_lent tables nodes)
-  unfolding run_entry run_tells tell on_accept
+  unfolding run_entry tells tell on_accept
   run_refused v number place e d =
       let z : run_entry.verdict (run_input s u t f) (run_lent tables nodes) ≡ Refused number place = verdict_same ∙ sym d ∙ e in
       record { answer = rw z; lent = rw z }

@@ -1,4 +1,5 @@
 -- The entry `step`.
+use Rattle.std.specs.Prelude.{Ok}
 use mathlib.Core.Path.{◌≡◌, refl, sym, ap, ◌∙◌}
 use mathlib.Core.List.{List}
 use Prim.Native.Nat.{ℕ}
@@ -8,14 +9,12 @@ use Rattle.rules.specs.declared.Network.{Network}
 use Rattle.rules.specs.declared.Packet.{Packet}
 use Rattle.rules.specs.declared.Failure.{Failure}
 use Rattle.rules.specs.declared.Step.{Step}
-use Rattle.rules.specs.declared.StepAnswer.TheVariants as stepped
-use Rattle.rules.specs.declared.Verdict.{Verdict}
-use Rattle.rules.specs.declared.Verdict.TheVariants.{Accepted, Refused}
+use Rattle.rules.specs.Verdict.{Verdict, Accepted, Refused}
 use Rattle.rules.specs.Basics.{need}
 use Rattle.rules.specs.Limits.{tables_length}
 use Rattle.rules.specs.File.{header_of}
 use Rattle.rules.specs.Judgement.{refuse, and_then, judge, need_set, need_packet, need_source, need_room}
-use Rattle.rules.specs.Answers.{tell, step_tells}
+use Rattle.rules.specs.Answers.{tell, step_tells, tells}
 use Rattle.rules.specs.Entries.Entry.{on_accept, Promise}
 use Rattle.rules.specs.Entries.Step.{lookups_of, step_of, step_entry}
 use Rattle.rules.proofs.Ground.Choices.{then_first, then_on, then_stop}
@@ -51,14 +50,14 @@ module _ (s tables : List ℕ) (p : Packet) (f : Failure) where
   unfolding step_entry step_verdict step_rest lookups_of lookup_at
   verdict_same = refl
 
-  pub step_taken : (u : Verdict) (r : Step) → u ≡ Accepted → u ≡ step_verdict (step_input s tables p f) → r ≡ step_at s tables f p → Promise step_entry (step_input s tables p f) tt (stepped.Taken r) tt
-  unfolding step_entry step_of step_at step_tells tell on_accept
+  pub step_taken : (u : Verdict) (r : Step) → u ≡ Accepted → u ≡ step_verdict (step_input s tables p f) → r ≡ step_at s tables f p → Promise step_entry (step_input s tables p f) tt (Ok r) tt
+  unfolding step_entry step_of step_at tells tell on_accept
   step_taken u r t e d =
       let z : step_entry.verdict (step_input s tables p f) tt ≡ Accepted = verdict_same ∙ sym e ∙ t in
       record { answer = rw (z, d); lent = refl }
 
   pub step_refused : (u : Verdict) (number place : ℕ) → u ≡ Refused number place → u ≡ step_verdict (step_input s tables p f) → Promise step_entry (step_input s tables p f) tt (stepped.Refused number place) tt
-  unfolding step_entry step_tells tell on_accept
+  unfolding step_entry tells tell on_accept
   step_refused u number place t e =
       let z : step_entry.verdict (step_input s tables p f) tt ≡ Refused number place = verdict_same ∙ sym e ∙ t in
       record { answer = rw z; lent = refl }

@@ -9,7 +9,7 @@ use lib.ListN.{length, get_or, set, replicate, length-set, length-replicate}
 use lib.Seq.{get_or-set_same, get_or-set_other}
 use borrow.Author.Tests.{eqb-true, eqb-false, eq-eqb, lt-ltb, le-ltb}
 use Rattle.rules.specs.declared.Network.{Network}
-use Rattle.rules.specs.declared.Verdict.TheVariants.{Accepted}
+use Rattle.rules.specs.Verdict.{Accepted}
 use Rattle.rules.specs.Basics.{any, lowest}
 use Rattle.rules.specs.Limits.{home_records}
 use Rattle.rules.specs.File.{Set, set_of, header_of, end_a, end_b, home_topology}

@@ -1,7 +1,7 @@
 -- Each node's neighbours, and each topology's isolated nodes, as words gathered from a file's bytes; and the topologies in turn, by such words.
 use Rattle.std.specs.Prelude.{List, ℕ, zero, suc, ◌-◌, ◌≤◌, ◌<◌, length, get_or, replicate}
 use Rattle.rules.specs.declared.Network.{Network}
-use Rattle.rules.specs.declared.Verdict.{Verdict}
+use Rattle.rules.specs.Verdict.{Verdict}
 use Rattle.rules.specs.Limits.{link_place, home_records}
 use Rattle.rules.specs.File.{end_a, end_b, home_topology}
 use Rattle.rules.specs.Judgement.{refuse, in_turn}

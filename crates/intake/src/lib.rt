@@ -5,7 +5,7 @@
 #![tactic(auto)]
 
 ghost use Rattle.std.specs.Prelude.{◌≡◌, ◌≤◌};
-ghost use Rattle.rules.specs.declared.Verdict.TheVariants.{Accepted};
+ghost use Rattle.rules.specs.Verdict.{Accepted};
 ghost use Rattle.rules.specs.Limits.{home_records};
 ghost use Rattle.rules.specs.File.{header_of, set_of};
 ghost use Rattle.rules.specs.Judgement.{judge, topologies, take_in, take_set};

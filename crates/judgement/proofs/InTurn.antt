@@ -10,20 +10,23 @@ use lib.Dec.{eqb, ltb, leb}
 use lib.ListN.{length, get_or}
 use borrow.Author.Tests.{lt-ltb, ltb-true, eqb-true, eqb-false}
 use Rattle.rules.specs.declared.Network.{Network}
-use Rattle.rules.specs.declared.Verdict.{Verdict}
-use Rattle.rules.specs.declared.Verdict.TheVariants.{Accepted, Refused}
+use Rattle.rules.specs.declared.Rule.{Rule}
+use Rattle.rules.specs.declared.Refusal.{Refusal}
+use Rattle.rules.specs.Verdict.{Verdict, Accepted, Refused, number_of}
 use Rattle.rules.specs.Basics.{need, all}
-use Rattle.rules.specs.Limits.{need_counts, link_place, home_place, row_place, file_length}
+use Rattle.rules.specs.Limits.{need_counts, home_records, link_place, home_place, row_place, file_length}
 use Rattle.rules.specs.File.{header_of, end_a, end_b, link_weight, home_node, home_topology, row_topology, row_weight}
 use Rattle.rules.specs.Judgement.{refuse, in_turn, need_mark, header_number, after, rises, link_number, home_number, row_weight_fits, row_number, records, judge}
-use Rattle.rules.proofs.Ground.Choices.{and_of, and_left, and_right, or_left, or_right, or_cases, clash, false_of, same_test, need_yes, need_no, need_ok, refuse_no, refuse_ok, then_ok, then_no, then_on, then_stop, turn_more, turn_stop, turn_done}
+use Rattle.rules.proofs.Ground.Choices.{and_of, and_left, and_right, or_left, or_right, or_cases, clash, false_of, same_test, need_yes, need_no, need_ok, refuse_ok, then_ok, then_no, turn_none, turn_more, turn_stop}
 use Rattle.rules.proofs.Ground.Numbers.{all_at}
 use Rattle.rules.proofs.File.Records.{header_meets}
 use Rattle.layout.specs.declared.LinkFields.{LinkFields}
 use Rattle.layout.specs.Fields.{LinkAt}
-use Rattle.layout.proofs.Places.{links_end}
+use Rattle.layout.proofs.Places.{link_inside, links_end}
+use Rattle.rules.proofs.Ground.Ruling.{number_some, says_number}
+use Rattle.recordrules.proofs.Orders.{counts_in_order, header_in_order, row_in_order}
 use Rattle.recordrules.specs.Rules.{header_rule, link_rule, home_rule, row_rule, weight_rule}
-use Rattle.judgement.specs.Turns.{judged, homes_then_rows, rank_before, low_before}
+use Rattle.judgement.specs.Turns.{judged, rank_before, low_before}
 
 -- what follows a needed test matters only where it holds
 need_under : (t : Bool) (number rest rest' : ℕ) → (t ≡ true → rest ≡ rest') → need t number rest ≡ need t number rest'
@@ -33,23 +36,35 @@ need_under false number rest rest' h = refl
 
 -- ---- records in turn, by number and place
 
-module _ (number_at place_of : ℕ → ℕ) (i number : ℕ) where
-  pub turn_taken : in_turn (judged number_at place_of) i ≡ Accepted → number ≡ number_at i → number ≡ 0 → in_turn (judged number_at place_of) (i + 1) ≡ Accepted
+module _ (number_at place_of : ℕ → ℕ) (i number place : ℕ) (h : in_turn (judged number_at place_of) i ≡ Accepted) (e : number ≡ number_at i) (p : place ≡ place_of i) where
+  pub turn_taken : Accepted ≡ refuse number place → in_turn (judged number_at place_of) (i + 1) ≡ Accepted
   unfolding judged
-  turn_taken h e t = turn_more (judged number_at place_of) i h (sym (refuse_ok (number_at i) (place_of i) (sym e ∙ t)))
+  turn_taken t = turn_more (judged number_at place_of) i h (rw (← e, ← p) (sym t))
 
-  pub turn_refused : (m place : ℕ) → in_turn (judged number_at place_of) i ≡ Accepted → number ≡ number_at i → place ≡ place_of i → (number ≡ 0 → ⊥) → i < m
-      → Refused number place ≡ in_turn (judged number_at place_of) m
+  pub turn_refused : (m c q : ℕ) → i < m → Refused c q ≡ refuse number place → Refused c q ≡ in_turn (judged number_at place_of) m
   unfolding judged
-  turn_refused m place h e p t l =
-      sym (turn_stop (judged number_at place_of) i m number place l h (rw (← e, ← p) (sym (refuse_no number place t))))
+  turn_refused m c q l t = sym (turn_stop (judged number_at place_of) i m c q l h (rw (← e, ← p) (sym t)))
 
 -- ---- the header
 
-pub header_number_is : (s : List ℕ) (h : Network) (x y wanted fit rest number : ℕ) → number ≡ header_rule (length s) x y rest → rest ≡ need_counts h fit
-    → fit ≡ need (eqb (length s) wanted) 1 0 → wanted ≡ file_length h → x ≡ get_or s 0 0 → y ≡ get_or s 1 0 → h ≡ header_of s → number ≡ header_number s
-unfolding header_rule header_number need_mark
-header_number_is s h x y wanted fit rest number e r f w p q d = e ∙ rw (r, f, w, p, q, d)
+-- the header's rules in their order, each told as the code tells it
+module _ (s : List ℕ) (h : Network) (x y : ℕ) (p : x ≡ get_or s 0 0) (q : y ≡ get_or s 1 0) (d : h ≡ header_of s) where
+  whole : header_rule (length s) x y (need_counts h (need (eqb (length s) (file_length h)) 1 0)) ≡ header_number s
+  unfolding header_rule header_number need_mark
+  whole = rw (p, q, d)
+
+  pub unmarked : (r : Rule) → number_of r ≡ header_rule (length s) x y 0 → number_of r ≡ header_number s
+  unmarked r e = (header_in_order (length s) x y).stop r _ e ∙ whole
+
+  pub miscounted : (r : Rule) → 0 ≡ header_rule (length s) x y 0 → number_of r ≡ need_counts h 0 → number_of r ≡ header_number s
+  miscounted r m e = (counts_in_order h).stop r _ e ∙ (header_in_order (length s) x y).on _ m ∙ whole
+
+  pub measured : (number wanted : ℕ) → 0 ≡ header_rule (length s) x y 0 → 0 ≡ need_counts h 0 → wanted ≡ file_length h → number ≡ need (eqb (length s) wanted) 1 0
+      → number ≡ header_number s
+  measured number wanted m c w e =
+      e ∙ ap (λ (k : ℕ). need (eqb (length s) k) 1 0) w ∙ (counts_in_order h).on _ c ∙ (header_in_order (length s) x y).on _ m ∙ whole
+
+pub ruleset heading = (unmarked, miscounted, measured)
 
 -- ---- links
 
@@ -57,8 +72,8 @@ header_number_is s h x y wanted fit rest number e r f w p q d = e ∙ rw (r, f, 
 pub links_there : (s : List ℕ) (h : Network) → length s ≡ file_length h → link_place h.m ≤ length s
 links_there s h e = rw e (links_end h)
 
-pub header_long : (s : List ℕ) (h : Network) (number : ℕ) → h ≡ header_of s → number ≡ header_number s → number ≡ 0 → length s ≡ file_length h
-header_long s h number eh en z = (header_meets s (sym en ∙ z)).long ∙ ap file_length (sym eh)
+pub header_long : (s : List ℕ) (h : Network) → h ≡ header_of s → 0 ≡ header_number s → length s ≡ file_length h
+header_long s h eh en = (header_meets s (sym en)).long ∙ ap file_length (sym eh)
 
 -- (c, d) comes after (a, b) exactly where 256 × c + d is the greater, both b and d being bytes
 after_is : (a b c d : ℕ) → b < 256 → d < 256 → after a b c d ≡ ltb (256 * a + b) (256 * c + d)
@@ -111,7 +126,31 @@ link_number_is s h l last rank number r f e er low k =
     e ∙ rw (er, f.first, f.second, f.a_is, f.b_is, f.weight) (ap (λ (x : ℕ). need_mark s (link_place l) 0x4C 0x4B (need (ltb (end_b s l) h.n) 4 x))
     (need_under (ltb (end_a s l) (end_b s l)) 4 _ _ (λ t. ap (λ (q : Bool). need q 4 (need (leb 1 (link_weight s l)) 5 (need (leb (link_weight s l) h.wmax) 5 0))) (sym (in_order t)))))
 
-pub ruleset link_turns = (turn_taken, turn_refused, turn_done, ranked_more, link_number_is)
+-- what the loop over the links keeps: those before are taken, and the last one's rank
+pub record LinksTaken (s : List ℕ) (h : Network) (l last : ℕ) : Type 0 where
+  pub taken : in_turn (judged (link_number s h) link_place) l ≡ Accepted
+  pub ranked : Ranked s l last
+
+pub links_none : (s : List ℕ) (h : Network) → LinksTaken s h 0 0
+links_none s h = record { taken = turn_none _; ranked = ranked_none s }
+
+module _ (s : List ℕ) (h : Network) (l last rank number place : ℕ) (r : LinkFields) (k : LinksTaken s h l last) (f : LinkAt s l r)
+    (e : number ≡ link_rule h r.x r.y last rank r.a r.b r.weight) (p : place ≡ link_place l) (er : rank ≡ 256 * r.a + r.b) (low : r.b < 256) where
+  pub links_more : Accepted ≡ refuse number place → LinksTaken s h (l + 1) rank
+  links_more t =
+      record {
+        taken = turn_taken (link_number s h) link_place l number place k.taken (link_number_is s h l last rank number r f e er low k.ranked) p t;
+        ranked = ranked_more s l rank r f er low;
+      }
+
+  pub links_stop : (m c q : ℕ) → l < m → Refused c q ≡ refuse number place → Refused c q ≡ in_turn (judged (link_number s h) link_place) m
+  links_stop m c q g t =
+      turn_refused (link_number s h) link_place l number place k.taken (link_number_is s h l last rank number r f e er low k.ranked) p m c q g t
+
+pub links_done : (s : List ℕ) (h : Network) (m last : ℕ) → LinksTaken s h m last → Accepted ≡ in_turn (judged (link_number s h) link_place) m
+links_done s h m last k = sym k.taken
+
+pub ruleset link_turns = (links_none, links_more, links_stop, links_done, link_inside)
 
 -- ---- homes
 
@@ -120,87 +159,93 @@ pub home_number_is : (s : List ℕ) (h : Network) (v place x y node topology num
 unfolding home_rule home_number need_mark home_node
 home_number_is s h v place x y node topology number e ex ey en et ep = e ∙ rw (ex, ey, en, et, ep)
 
-pub ruleset home_turns = (turn_taken, turn_refused, turn_done, home_number_is)
+pub ruleset home_turns = (turn_taken, turn_refused, home_number_is)
 
 -- ---- rows
 
-pub fits_is : (s : List ℕ) (h : Network) (j l a b p q w number : ℕ) → number ≡ weight_rule h.wmax (j + 1) p q w → p ≡ home_topology s h a
+fits_is : (s : List ℕ) (h : Network) (j l a b p q w number : ℕ) → number ≡ weight_rule h.wmax (j + 1) p q w → p ≡ home_topology s h a
     → q ≡ home_topology s h b → a ≡ end_a s l → b ≡ end_b s l → w ≡ row_weight s h j l → number ≡ need (row_weight_fits s h j l) 5 0
 unfolding weight_rule row_weight_fits
 fits_is s h j l a b p q w number e ep eq ea eb ew = e ∙ rw (ep, eq, ea, eb, ew, add-one)
 
-module _ (s : List ℕ) (h : Network) (j l number : ℕ) where
-  fits_each : number ≡ need (row_weight_fits s h j l) 5 0 → number ≡ 0 → row_weight_fits s h j l ≡ true
-  fits_each e t = (need_ok (row_weight_fits s h j l) 4 0 (sym e ∙ t)).0
-
-  pub fits_pass : all (row_weight_fits s h j) l ≡ true → number ≡ 0 → number ≡ need (row_weight_fits s h j l) 5 0 → all (row_weight_fits s h j) (l + 1) ≡ true
+module _ (s : List ℕ) (h : Network) (j l : ℕ) where
+  fits_pass : all (row_weight_fits s h j) l ≡ true → 0 ≡ need (row_weight_fits s h j l) 5 0 → all (row_weight_fits s h j) (l + 1) ≡ true
   unfolding all
-  fits_pass a t e = rw add-one (and_of (all (row_weight_fits s h j) l) (row_weight_fits s h j l) a (fits_each e t))
+  fits_pass a t = rw add-one (and_of (all (row_weight_fits s h j) l) (row_weight_fits s h j l) a (need_ok (row_weight_fits s h j l) 4 0 (sym t)).0)
 
-  pub fits_fail : (m : ℕ) → (number ≡ 0 → ⊥) → l < m → number ≡ need (row_weight_fits s h j l) 5 0 → number ≡ need (all (row_weight_fits s h j) m) 5 0
-  fits_fail m t g e =
-      let misfit : row_weight_fits s h j l ≡ false = false_of (row_weight_fits s h j l) (λ f. t (e ∙ sym (need_yes (row_weight_fits s h j l) 5 0 0 f refl))) in
+  fits_fail : (r : Rule) (m : ℕ) → l < m → number_of r ≡ need (row_weight_fits s h j l) 5 0 → number_of r ≡ need (all (row_weight_fits s h j) m) 5 0
+  fits_fail r m g t =
+      let misfit : row_weight_fits s h j l ≡ false = false_of (row_weight_fits s h j l) (λ f. number_some r (t ∙ sym (need_yes (row_weight_fits s h j l) 5 0 0 f refl))) in
       let some : all (row_weight_fits s h j) m ≡ false =
       false_of (all (row_weight_fits s h j) m) (λ f. clash (row_weight_fits s h j l) (all_at (row_weight_fits s h j) m f l g) misfit) in
-      e ∙ sym (need_no (row_weight_fits s h j l) 5 0 5 misfit refl) ∙ need_no (all (row_weight_fits s h j) m) 5 0 5 some refl
+      t ∙ sym (need_no (row_weight_fits s h j l) 5 0 5 misfit refl) ∙ need_no (all (row_weight_fits s h j) m) 5 0 5 some refl
 
-  pub fits_done : (m : ℕ) → all (row_weight_fits s h j) l ≡ true → l ≤ m → m ≤ l → 0 ≡ need (all (row_weight_fits s h j) m) 5 0
-  fits_done m a p q =
-      let same : l ≡ m = omega arith in
-      need_yes (all (row_weight_fits s h j) m) 5 0 0 (rw (← same) a) refl
+  -- the same over what the code reads
+  module _ (a b p q w number : ℕ) (e : number ≡ weight_rule h.wmax (j + 1) p q w) (ea : a ≡ end_a s l) (eb : b ≡ end_b s l) (ep : p ≡ home_topology s h a)
+      (eq : q ≡ home_topology s h b) (ew : w ≡ row_weight s h j l) where
+    pub weight_passes : all (row_weight_fits s h j) l ≡ true → 0 ≡ number → all (row_weight_fits s h j) (l + 1) ≡ true
+    weight_passes g t = fits_pass g (t ∙ fits_is s h j l a b p q w number e ep eq ea eb ew)
 
-pub ruleset fitting = (fits_is, fits_pass, fits_fail, fits_done)
+    pub weight_fails : (r : Rule) (m : ℕ) → l < m → number_of r ≡ number → number_of r ≡ need (all (row_weight_fits s h j) m) 5 0
+    weight_fails r m g t = fits_fail r m g (t ∙ fits_is s h j l a b p q w number e ep eq ea eb ew)
+
+pub fits_none : (s : List ℕ) (h : Network) (j : ℕ) → all (row_weight_fits s h j) 0 ≡ true
+unfolding all
+fits_none s h j = refl
+
+pub fits_all : (s : List ℕ) (h : Network) (j m : ℕ) → all (row_weight_fits s h j) m ≡ true → 0 ≡ need (all (row_weight_fits s h j) m) 5 0
+fits_all s h j m a = need_yes (all (row_weight_fits s h j) m) 5 0 0 a refl
+
+pub ruleset fitting = (weight_passes, weight_fails, fits_none, fits_all)
 
 -- the start of a row, and then its weights
-start_stop : (a b d : Bool) (rest : ℕ) → (need a 2 (need b 2 (need d 6 0)) ≡ 0 → ⊥) → need a 2 (need b 2 (need d 6 0)) ≡ need a 2 (need b 2 (need d 6 rest))
-unfolding need
-start_stop true true true rest h = absurd (h refl)
-start_stop true true false rest h = refl
-start_stop true false d rest h = refl
-start_stop false b d rest h = refl
-
-start_on : (a b d : Bool) (rest : ℕ) → need a 2 (need b 2 (need d 6 0)) ≡ 0 → rest ≡ need a 2 (need b 2 (need d 6 rest))
-unfolding need
-start_on true true true rest h = refl
-start_on true true false rest h = absurd (omega arith)
-start_on true false d rest h = absurd (omega arith)
-start_on false b d rest h = absurd (omega arith)
-
-module _ (s : List ℕ) (h : Network) (j place x y topology head : ℕ) (e : head ≡ row_rule (j + 1) x y topology 0) (ex : x ≡ get_or s place 0)
-    (ey : y ≡ get_or s (place + 1) 0) (et : topology ≡ get_or s (place + 2) 0) (ep : place ≡ row_place h j) where
+module _ (s : List ℕ) (h : Network) (j place x y topology : ℕ) (ex : x ≡ get_or s place 0) (ey : y ≡ get_or s (place + 1) 0) (et : topology ≡ get_or s (place + 2) 0)
+    (ep : place ≡ row_place h j) where
   row_is : row_rule (j + 1) x y topology (need (all (row_weight_fits s h j) h.m) 5 0) ≡ row_number s h j
   unfolding row_rule row_number need_mark row_topology
   row_is = rw (ex, ey, et, ep, add-one j)
 
-  pub row_stop : (head ≡ 0 → ⊥) → head ≡ row_number s h j
-  unfolding row_rule
-  row_stop t = e ∙ start_stop (eqb x 0x42) (eqb y 0x57) (eqb topology (j + 1)) _ (λ z. t (e ∙ z)) ∙ row_is
+  pub row_stop : (r : Rule) → number_of r ≡ row_rule (j + 1) x y topology 0 → number_of r ≡ row_number s h j
+  row_stop r e = (row_in_order (j + 1) x y topology).stop r _ e ∙ row_is
 
-  pub row_on : (number : ℕ) → number ≡ need (all (row_weight_fits s h j) h.m) 5 0 → head ≡ 0 → number ≡ row_number s h j
-  unfolding row_rule
-  row_on number w t = w ∙ start_on (eqb x 0x42) (eqb y 0x57) (eqb topology (j + 1)) _ (sym e ∙ t) ∙ row_is
+  pub row_on : (number : ℕ) → number ≡ need (all (row_weight_fits s h j) h.m) 5 0 → 0 ≡ row_rule (j + 1) x y topology 0 → number ≡ row_number s h j
+  row_on number w e = w ∙ (row_in_order (j + 1) x y topology).on _ e ∙ row_is
 
-pub ruleset row_turns = (turn_taken, turn_refused, turn_done)
+pub ruleset row_starts = (row_stop, row_on)
+
+pub ruleset row_turns = (turn_taken, turn_refused)
 
 -- ---- the judgement
 
-module _ (s : List ℕ) (h : Network) (v : Verdict) (e : v ≡ in_turn (judged (link_number s h) link_place) h.m) where
-  pub records_on : (w : Verdict) → v ≡ Accepted → w ≡ homes_then_rows s h → w ≡ records s h
-  unfolding records homes_then_rows judged
-  records_on w t d = then_on v w _ _ t e d
+-- the records in their order, each kind told as the code tells it
+module _ (s : List ℕ) (h : Network) where
+  abbrev links_in_turn : Verdict
+  links_in_turn = in_turn (judged (link_number s h) link_place) h.m
 
-  pub records_stop : (number place : ℕ) → v ≡ Refused number place → v ≡ records s h
-  unfolding records homes_then_rows judged
-  records_stop number place t = then_stop v _ _ number place t e
+  abbrev homes_in_turn : ℕ → Verdict
+  homes_in_turn count = in_turn (judged (home_number s h) (home_place h)) count
 
-module _ (s : List ℕ) (number : ℕ) (e : number ≡ header_number s) where
-  pub judge_stop : (number ≡ 0 → ⊥) → Refused number 0 ≡ judge s
+  pub links_refuse : (number place : ℕ) → Refused number place ≡ links_in_turn → Refused number place ≡ records s h
+  unfolding records judged
+  links_refuse number place e = sym (then_no _ _ number place (sym e))
+
+  pub homes_refuse : (count number place : ℕ) → count ≡ home_records h → Accepted ≡ links_in_turn → Refused number place ≡ homes_in_turn count → Refused number place ≡ records s h
+  unfolding records judged
+  homes_refuse count number place c e d =
+      sym (then_ok _ _ (sym e) ∙ then_no _ _ number place (ap (in_turn _) (sym c) ∙ sym d))
+
+  pub rows_decide : (count : ℕ) (v : Verdict) → count ≡ home_records h → Accepted ≡ links_in_turn → Accepted ≡ homes_in_turn count
+      → v ≡ in_turn (judged (row_number s h) (row_place h)) h.k → v ≡ records s h
+  unfolding records judged
+  rows_decide count v c e d r = r ∙ sym (then_ok _ _ (sym e) ∙ then_ok _ _ (ap (in_turn _) (sym c) ∙ sym d))
+
+module _ (s : List ℕ) where
+  pub judge_stop : (r : Refusal) → number_of r.rule ≡ header_number s → r.place ≡ 0 → Refused (number_of r.rule) r.place ≡ judge s
   unfolding judge
-  judge_stop t = sym (then_no _ _ number 0 (ap (λ (k : ℕ). refuse k 0) (sym e) ∙ sym (refuse_no number 0 t)))
+  judge_stop r e p = sym (then_no _ _ (number_of r.rule) r.place (sym (says_number r (header_number s) 0 e p)))
 
-  pub judge_on : (h : Network) (v : Verdict) → h ≡ header_of s → number ≡ 0 → v ≡ records s h → v ≡ judge s
+  pub judge_on : (h : Network) (v : Verdict) → h ≡ header_of s → 0 ≡ header_number s → v ≡ records s h → v ≡ judge s
   unfolding judge
-  judge_on h v d t p =
-      p ∙ ap (records s) d ∙ sym (then_ok _ _ (ap (λ (k : ℕ). refuse k 0) (sym e) ∙ sym (refuse_ok number 0 t)))
+  judge_on h v d t p = p ∙ ap (records s) d ∙ sym (then_ok _ _ (sym (refuse_ok (header_number s) 0 (sym t))))
 
-pub ruleset judging = (header_number_is, records_on, records_stop, judge_stop, judge_on)
+pub ruleset judging = (links_refuse, homes_refuse, rows_decide, judge_stop, judge_on, header_long, links_there)

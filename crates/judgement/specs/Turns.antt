@@ -1,20 +1,14 @@
 -- Each record's verdict, and the records one after the other.
 use Rattle.std.specs.Prelude.{List, ℕ, zero, suc, ◌+◌, ◌*◌}
-use Rattle.rules.specs.declared.Network.{Network}
-use Rattle.rules.specs.declared.Verdict.{Verdict}
-use Rattle.rules.specs.Limits.{home_records, home_place, row_place}
+use Rattle.rules.specs.Verdict.{Verdict}
 use Rattle.rules.specs.File.{end_a, end_b}
-use Rattle.rules.specs.Judgement.{refuse, and_then, in_turn, home_number, row_number}
+use Rattle.rules.specs.Judgement.{refuse}
 
--- ---- verdicts by number and place, and the records after the links
+-- ---- verdicts by number and place
 
 -- record i's refusal number, at its place
 unfoldable pub judged : (ℕ → ℕ) → (ℕ → ℕ) → ℕ → Verdict
 judged number place i = refuse (number i) (place i)
-
-unfoldable pub homes_then_rows : List ℕ → Network → Verdict
-homes_then_rows s h =
-    and_then (in_turn (judged (home_number s h) (home_place h)) (home_records h)) (in_turn (judged (row_number s h) (row_place h)) h.k)
 
 -- ---- what a link must come after: 0 before the first, which any link with a < b passes; else 256 × a + b of the link before, with its b below 256
 

@@ -7,41 +7,44 @@ ghost use Rattle.rules.specs.Basics.{need, all};
 ghost use Rattle.rules.specs.Limits.{link_place, home_place, row_place, file_length};
 ghost use Rattle.rules.specs.File.{header_of};
 ghost use Rattle.rules.specs.Judgement.{in_turn, header_number, link_number, home_number, row_weight_fits, row_number, records, judge};
-ghost use Rattle.judgement.specs.Turns.{judged, homes_then_rows};
+ghost use Rattle.rules.specs.Verdict.{broken, says};
+ghost use Rattle.judgement.specs.Turns.{judged};
 
 use layout::{
     end_a, end_b, header, home_place, home_topology, link_fields, link_place, row_place, row_weight,
 };
-use rules::{Network, Verdict};
+use rules::{Network, Rule, Verdict, at};
 use slices::byte;
 
 // ---- the header
 
-// The refusal number of the header, or 0.
-fn header_number(file: &[u8], net: Network) -> u8
+// The header's rule.
+#[tactic(auto, using(crate::proofs::InTurn::heading))]
+fn header_rule(file: &[u8], net: Network) -> Result<(), Rule>
     requires { net ≡ header_of file.now }
-    ensures { result ≡ header_number file.now }
+    ensures { broken result ≡ header_number file.now }
 {
     let long = file.len();
-    let rest = recordrules::counts(net, recordrules::length(long, net.file_length()));
-    recordrules::header(long, byte(file, 0), byte(file, 1), rest)
+    recordrules::header(long, byte(file, 0), byte(file, 1))?;
+    recordrules::counts(net)?;
+    recordrules::length(long, net.file_length())
 }
 
 // ---- links
 
 // The link records in turn.
+#[tactic(auto, using(crate::proofs::InTurn::link_turns))]
 fn links(file: &[u8], net: Network) -> Verdict
     requires { link_place net.m ≤ length file.now }
-    ensures { result ≡ in_turn (judged (link_number file.now net) link_place) net.m }
+    ensures { says result ≡ in_turn (judged (link_number file.now net) link_place) net.m }
 {
     let m = net.m as usize;
     let mut last = 0;
-    let mut l = 0;
-    while l < m {
+    for l in 0..m {
         let place = link_place(l);
         let link = link_fields(file, l);
         let rank = recordrules::rank(link.a, link.b);
-        let number = recordrules::link(
+        let judged = recordrules::link(
             net,
             link.x,
             link.y,
@@ -51,26 +54,23 @@ fn links(file: &[u8], net: Network) -> Verdict
             link.b,
             link.weight,
         );
-        if number != 0 {
-            return Verdict::Refused { number, place };
-        }
+        at(place, judged)?;
         last = rank;
-        l += 1;
     }
-    Verdict::Accepted
+    Ok(())
 }
 
 // ---- homes
 
 // The first home records in turn.
+#[tactic(auto, using(crate::proofs::InTurn::home_turns, rules::proofs::Ground::Choices::turn_none))]
 fn homes(file: &[u8], net: Network, count: usize) -> Verdict
     requires { count < 256 }
-    ensures { result ≡ in_turn (judged (home_number file.now net) (home_place net)) count }
+    ensures { says result ≡ in_turn (judged (home_number file.now net) (home_place net)) count }
 {
-    let mut v = 0;
-    while v < count {
+    for v in 0..count {
         let place = home_place(net, v);
-        let number = recordrules::home(
+        let judged = recordrules::home(
             net,
             v,
             byte(file, place),
@@ -78,115 +78,77 @@ fn homes(file: &[u8], net: Network, count: usize) -> Verdict
             byte(file, place + 2),
             home_topology(file, net, v),
         );
-        if number != 0 {
-            return Verdict::Refused { number, place };
-        }
-        v += 1;
+        at(place, judged)?;
     }
-    Verdict::Accepted
+    Ok(())
 }
 
 // ---- rows
 
-// The weights of the row of topology j + 1: 0 where each fits its link's class.
-fn weights(file: &[u8], net: Network, j: usize) -> u8
+// The weights of the row of topology j + 1: each fits its link's class.
+#[tactic(auto, using(crate::proofs::InTurn::fitting))]
+fn weights(file: &[u8], net: Network, j: usize) -> Result<(), Rule>
     requires { j < 256 }
-    ensures { result ≡ need (all (row_weight_fits file.now net j) net.m) 5 0 }
+    ensures { broken result ≡ need (all (row_weight_fits file.now net j) net.m) 5 0 }
 {
     let m = net.m as usize;
-    let mut l = 0;
-    while l < m {
+    for l in 0..m {
         let home_a = home_topology(file, net, end_a(file, l) as usize);
         let home_b = home_topology(file, net, end_b(file, l) as usize);
-        let number = recordrules::weight(
-            net.wmax,
-            j + 1,
-            home_a,
-            home_b,
-            row_weight(file, net, j, l),
-        );
-        if number != 0 {
-            return number;
-        }
-        l += 1;
+        recordrules::weight(net.wmax, j + 1, home_a, home_b, row_weight(file, net, j, l))?;
     }
-    0
+    Ok(())
 }
 
-// The refusal number of the row of topology j + 1, or 0.
-fn row_number(file: &[u8], net: Network, j: usize, place: usize) -> u8
+// The rule of the row of topology j + 1: its start before its weights.
+#[tactic(auto, using(crate::proofs::InTurn::row_starts))]
+fn row(file: &[u8], net: Network, j: usize, place: usize) -> Result<(), Rule>
     requires { (j < 256) × ((place ≡ row_place net j) × (place < 536870912)) }
-    ensures { result ≡ row_number file.now net j }
+    ensures { broken result ≡ row_number file.now net j }
 {
-    let head = recordrules::row(
+    recordrules::row(
         j + 1,
         byte(file, place),
         byte(file, place + 1),
         byte(file, place + 2),
-    );
-    if head != 0 {
-        return head;
-    }
+    )?;
     weights(file, net, j)
 }
 
 // The rows in turn.
+#[tactic(auto, using(crate::proofs::InTurn::row_turns, rules::proofs::Ground::Choices::turn_none))]
 fn rows(file: &[u8], net: Network) -> Verdict
-    ensures { result ≡ in_turn (judged (row_number file.now net) (row_place net)) net.k }
+    ensures { says result ≡ in_turn (judged (row_number file.now net) (row_place net)) net.k }
 {
     let k = net.k as usize;
-    let mut j = 0;
-    while j < k {
+    for j in 0..k {
         let place = row_place(net, j);
-        let number = row_number(file, net, j, place);
-        if number != 0 {
-            return Verdict::Refused { number, place };
-        }
-        j += 1;
+        at(place, row(file, net, j, place))?;
     }
-    Verdict::Accepted
+    Ok(())
 }
 
 // ---- the judgement
 
-fn homes_then_rows(file: &[u8], net: Network) -> Verdict
-    ensures { result ≡ homes_then_rows file.now net }
-{
-    let v = homes(file, net, net.home_records());
-    match v {
-        Verdict::Accepted => rows(file, net),
-        Verdict::Refused {
-            number: _,
-            place: _,
-        } => v,
-    }
-}
-
 // Each record after the header in turn, in a file of the length that its header says.
+#[tactic(auto, using(crate::proofs::InTurn::judging))]
 fn records(file: &[u8], net: Network) -> Verdict
     requires { length file.now ≡ file_length net }
-    ensures { result ≡ records file.now net }
+    ensures { says result ≡ records file.now net }
 {
-    let v = links(file, net);
-    match v {
-        Verdict::Accepted => homes_then_rows(file, net),
-        Verdict::Refused {
-            number: _,
-            place: _,
-        } => v,
-    }
+    links(file, net)?;
+    homes(file, net, net.home_records())?;
+    rows(file, net)
 }
 
 // Whether these bytes keep the rules of a file, and if not, the first rule of 01's order that they break and where.
 // Rules out: the place of the first home for a fault in a later one `place_of_first`; 5 for a row whose topology is wrong too,
 // which is 6 `weight_before_topology`; also `every_home_judged_by_the_first`, `place_of_an_earlier_record`.
+#[tactic(auto, using(crate::proofs::InTurn::judging))]
 pub fn judge(file: &[u8]) -> Verdict
-    ensures { result ≡ judge file.now }
+    ensures { says result ≡ judge file.now }
 {
     let net = header(file);
-    let number = header_number(file, net);
-    if number != 0 {
-        return Verdict::Refused { number, place: 0 };
-    }
+    header_rule(file, net)?;
     records(file, net)
 }

@@ -1,15 +1,14 @@
 -- The lists' lengths judged, and the published promise.
+use Rattle.std.specs.Prelude.{Ok}
 use mathlib.Core.Path.{◌≡◌, sym, ◌∙◌}
 use mathlib.Core.List.{List}
 use Prim.Native.Nat.{ℕ}
 use lib.ListN.{length}
 use Rattle.rules.specs.declared.Network.{Network}
-use Rattle.rules.specs.declared.Verdict.{Verdict}
-use Rattle.rules.specs.declared.Verdict.TheVariants.{Accepted, Refused}
-use Rattle.rules.specs.declared.ReadAnswer.TheVariants as read
+use Rattle.rules.specs.Verdict.{Verdict, Accepted, Refused}
 use Rattle.rules.specs.File.{header_of, set_of}
 use Rattle.rules.specs.Judgement.{and_then, take_in}
-use Rattle.rules.specs.Answers.{tell, read_tells}
+use Rattle.rules.specs.Answers.{tell, read_tells, tells}
 use Rattle.rules.specs.Entries.Entry.{on_accept, Promise}
 use Rattle.rules.specs.Entries.Lists.{Lists, lists, need_lists, LongLists}
 use Rattle.rules.specs.Entries.Read.{lists_with, read_entry}
@@ -38,14 +37,14 @@ module _ (s a b w hs rs : List ℕ) (h : Network) (v : Verdict)
   unfolding read_verdict lists_verdict lists_rule need_lists
   read_room t = lists_long 13 h (lists a b w hs rs) (then_second (take_in s) _ (sym p ∙ t))
 
-  pub read_taken : (e : Lists) → v ≡ Accepted → e ≡ lists_of s h (lists a b w hs rs) → Promise read_entry s (lists a b w hs rs) (read.Read h) e
-  unfolding read_entry read_tells tell on_accept lists_of row_of lists_with set_of
+  pub read_taken : (e : Lists) → v ≡ Accepted → e ≡ lists_of s h (lists a b w hs rs) → Promise read_entry s (lists a b w hs rs) (Ok h) e
+  unfolding read_entry tells tell on_accept lists_of row_of lists_with set_of
   read_taken e t d =
       let taken : read_entry.verdict s (lists a b w hs rs) ≡ Accepted = sym verdict_is ∙ t in
       record { answer = rw (taken, q); lent = rw taken (d ∙ rw q) }
 
   pub read_refused : (number place : ℕ) → v ≡ Refused number place → Promise read_entry s (lists a b w hs rs) (read.Refused number place) (lists a b w hs rs)
-  unfolding read_entry read_tells tell on_accept
+  unfolding read_entry tells tell on_accept
   read_refused number place t =
       let refused : read_entry.verdict s (lists a b w hs rs) ≡ Refused number place = sym verdict_is ∙ t in
       record { answer = rw refused; lent = rw refused }

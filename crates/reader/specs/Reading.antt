@@ -1,7 +1,7 @@
 -- When reading refuses, over the header's counts and the lists' lengths. The published entry says the same of a set.
 use Rattle.std.specs.Prelude.{List, ℕ}
 use Rattle.rules.specs.declared.Network.{Network}
-use Rattle.rules.specs.declared.Verdict.{Verdict}
+use Rattle.rules.specs.Verdict.{Verdict}
 use Rattle.rules.specs.Judgement.{and_then, take_in}
 use Rattle.needs.specs.Numbers.{lists_verdict}
 

@@ -1,2 +1,3 @@
 -- Laws that the functions' proofs cite.
 pub mod Weights
+pub mod Orders

@@ -1,6 +1,7 @@
--- A weight of two bytes, and a weight by its link's class.
+-- A weight by its link's class.
 use mathlib.Core.Path.{◌≡◌, refl, ◌∙◌}
 use mathlib.Core.Bool.{Bool, true, false}
+use mathlib.Core.Logic.{◌⊎◌, inl, inr}
 use Prim.Native.Nat.{ℕ, ◌<◌}
 use native.Mathlib.Omega.{arith}
 use lib.Dec.{eqb, leb}
@@ -9,10 +10,6 @@ use Rattle.rules.specs.Basics.{need}
 use Rattle.rules.specs.Isolation.{class_by, weight_fits}
 use Rattle.rules.proofs.Ground.Choices.{need_le}
 use Rattle.recordrules.specs.Rules.{weight_rule}
-
--- a weight of two bytes is at most 65,535
-pub need_two_bytes : (w number rest x : ℕ) → w < 65536 → x ≡ rest → x ≡ need (leb w 65535) number rest
-need_two_bytes w number rest x h e = need_le w 65535 number rest x (omega arith) e
 
 -- a weight by its class: an end isolated, the other end isolated, a normal link
 module _ (wmax i p q w x : ℕ) where
@@ -35,3 +32,10 @@ module _ (wmax i p q w x : ℕ) where
       go : (t : Bool) → leb 1 w ≡ t → x ≡ need (weight_fits (class_by (eqb p i) (eqb q i)) wmax w) 5 0
       go true g = rw (ne_eqb p i n, ne_eqb q i k, g) (d ∙ rw g)
       go false g = rw (ne_eqb p i n, ne_eqb q i k, g) (d ∙ rw g)
+
+  -- an end isolated, one or the other
+  pub weight_isolated : (p ≡ i) ⊎ ((p ≡ i → ⊥) × (q ≡ i)) → x ≡ need (eqb w 0) 5 0 → x ≡ weight_rule wmax i p q w
+  weight_isolated (inl e) d = weight_first e d
+  weight_isolated (inr e) d = weight_second e.0 e.1 d
+
+pub ruleset by_class = (weight_isolated, weight_normal)

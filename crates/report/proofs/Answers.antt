@@ -1,4 +1,5 @@
 -- From the answer of the entry `tables` to that of `report`: the room for the longest tables is always enough, so both refuse the same files.
+use Rattle.std.specs.Prelude.{Ok}
 use mathlib.Core.Path.{◌≡◌, refl, sym, ap, ap₂, subst, ◌∙◌}
 use mathlib.Core.List.{List, [], ◌∷◌, ◌++◌}
 use Prim.Native.Nat.{ℕ, ◌+◌, ◌≤◌}
@@ -6,17 +7,14 @@ use native.Mathlib.Nat.{zero-add}
 use native.Mathlib.Omega.{arith}
 use lib.ListN.{length, take}
 use Rattle.rules.specs.declared.Network.{Network}
-use Rattle.rules.specs.declared.Verdict.{Verdict}
-use Rattle.rules.specs.declared.Verdict.TheVariants.{Accepted, Refused}
-use Rattle.rules.specs.declared.LengthAnswer.{LengthAnswer}
-use Rattle.rules.specs.declared.LengthAnswer.TheVariants as long
+use Rattle.rules.specs.Verdict.{Verdict, Accepted, Refused}
 use Rattle.rules.specs.Basics.{laid}
 use Rattle.rules.specs.Limits.{tables_length, report_room, longest}
 use Rattle.rules.specs.File.{header_of, set_of}
 use Rattle.rules.specs.Distance.{table_bytes}
 use Rattle.rules.specs.Judgement.{and_then, take_set, need_room}
 use Rattle.rules.specs.Report.{decimal, newline, report_text, refusal_line, printed}
-use Rattle.rules.specs.Answers.{accepted, tell, length_tells}
+use Rattle.rules.specs.Answers.{LengthAnswer, accepted, tell, length_tells, tells}
 use Rattle.rules.specs.Entries.Entry.{on_accept, Promise}
 use Rattle.rules.specs.Entries.Tables.{tables_entry}
 use Rattle.rules.specs.Entries.Report.{report_entry}
@@ -86,8 +84,8 @@ module _ (s : List ℕ) where
 
   -- ---- an accepted file
 
-  pub made_ready : (answer : LengthAnswer) (tables : List ℕ) (bytes : ℕ) (net : Network) → Made s answer tables → answer ≡ long.Length bytes → net ≡ header_of s → Ready s net tables
-  unfolding tables_entry length_tells on_accept
+  pub made_ready : (answer : LengthAnswer) (tables : List ℕ) (bytes : ℕ) (net : Network) → Made s answer tables → answer ≡ Ok bytes → net ≡ header_of s → Ready s net tables
+  unfolding tables_entry tells on_accept
   made_ready answer tables bytes net M e h =
       let v : and_then (take_set s) (need_room (tables_length (header_of s)) M.before) ≡ Accepted = tells_accepted _ (tables_length (header_of s) ∷ []) (bytes ∷ []) (sym (ap length_tells e) ∙ M.kept.answer) in
       let c = then_first (take_set s) (need_room (tables_length (header_of s)) M.before) v in
@@ -107,8 +105,8 @@ module _ (s : List ℕ) where
   fits c = subst (λ (h : Network). length (report_text (set_of s)) ≤ report_room h) (net_held s) (text_fits (set_of s) (set_accepted s c))
 
   -- a text that was written where there is room for it
-  wrote_copied : (old new : List ℕ) (r : ℕ) → length (report_text (set_of s)) ≤ length old → Wrote old 0 (report_text (set_of s)) text_room r new → Copied (report_text (set_of s)) old (long.Length r) new
-  unfolding length_tells tell on_accept
+  wrote_copied : (old new : List ℕ) (r : ℕ) → length (report_text (set_of s)) ≤ length old → Wrote old 0 (report_text (set_of s)) text_room r new → Copied (report_text (set_of s)) old (Ok r) new
+  unfolding tells tell on_accept
   wrote_copied old new r l w =
       let v = room_ok (length (report_text (set_of s))) old l in
       record {
@@ -117,7 +115,7 @@ module _ (s : List ℕ) where
       }
 
   module _ (net : Network) (tables : List ℕ) (R : Ready s net tables) where
-    pub written_whole : (old new : List ℕ) (r enough : ℕ) → enough ≡ report_room net → enough ≤ length old → Wrote old 0 (report_text (set_of s)) text_room r new → Copied (report_text (set_of s)) old (long.Length r) new
+    pub written_whole : (old new : List ℕ) (r enough : ℕ) → enough ≡ report_room net → enough ≤ length old → Wrote old 0 (report_text (set_of s)) text_room r new → Copied (report_text (set_of s)) old (Ok r) new
     written_whole old new r enough e l w =
         let h : report_room net ≡ report_room (header_of s) = ap report_room R.header in
         wrote_copied old new r (omega (arith, fits R.accepted)) w
@@ -137,7 +135,7 @@ module _ (s : List ℕ) where
       pub apart_copied : (text after : List ℕ) (x : LengthAnswer) → Copied (take r own) text x after → Copied (report_text (set_of s)) text x after
       apart_copied text after x C = subst (λ (l : List ℕ). Copied l text x after) front C
 
-  pub reported : (answer x : LengthAnswer) (tables old new : List ℕ) (bytes : ℕ) → Made s answer tables → answer ≡ long.Length bytes → Copied (report_text (set_of s)) old x new → Promise report_entry s old x new
+  pub reported : (answer x : LengthAnswer) (tables old new : List ℕ) (bytes : ℕ) → Made s answer tables → answer ≡ Ok bytes → Copied (report_text (set_of s)) old x new → Promise report_entry s old x new
   unfolding report_entry
   reported answer x tables old new bytes M d C =
       let c = (made_ready answer tables bytes (header_of s) M d refl).accepted in
@@ -147,7 +145,7 @@ module _ (s : List ℕ) where
   -- ---- a refused file
 
   pub made_refused : (answer : LengthAnswer) (tables old : List ℕ) (number place : ℕ) → Made s answer tables → answer ≡ long.Refused number place → Promise report_entry s old (long.Refused number place) old
-  unfolding tables_entry report_entry length_tells tell on_accept
+  unfolding tables_entry report_entry tells tell on_accept
   made_refused answer tables old number place M e =
       let t : and_then (take_set s) (need_room (tables_length (header_of s)) M.before) ≡ Refused number place = tells_refused _ (tables_length (header_of s) ∷ []) number place (sym (ap length_tells e) ∙ M.kept.answer) in
       let v = then_no (take_set s) (need_room (length (report_text (set_of s))) old) number place (sym (tables_verdict M.before M.enough) ∙ t) in
@@ -175,8 +173,8 @@ module _ (s : List ℕ) where
       go (Refused number place) e m = ap length m
 
   -- the bytes of an answer lie in the room
-  pub report_inside : (old mid : List ℕ) (answer : LengthAnswer) (bytes : ℕ) → Promise report_entry s old answer mid → answer ≡ long.Length bytes → bytes ≤ length mid
-  unfolding report_entry length_tells tell
+  pub report_inside : (old mid : List ℕ) (answer : LengthAnswer) (bytes : ℕ) → Promise report_entry s old answer mid → answer ≡ Ok bytes → bytes ≤ length mid
+  unfolding report_entry tells tell
   report_inside old mid answer bytes P e =
       let v : and_then (take_set s) (need_room (length (report_text (set_of s))) old) ≡ Accepted = tells_accepted _ (length (report_text (set_of s)) ∷ []) (bytes ∷ []) (sym (ap length_tells e) ∙ P.answer) in
       let a : accepted (bytes ∷ []) ≡ accepted (length (report_text (set_of s)) ∷ []) = sym (ap length_tells e) ∙ P.answer ∙ ap (λ (x : Verdict). tell x (length (report_text (set_of s)) ∷ [])) v in
@@ -185,7 +183,7 @@ module _ (s : List ℕ) where
       omega (arith, same_room old mid answer P)
 
   pub printed_of : (old mid new : List ℕ) (answer : LengthAnswer) (r : ℕ) → Promise report_entry s old answer mid → Says answer mid r new → longest.report ≡ length mid → Printed s old r new
-  unfolding report_entry length_tells tell on_accept printed
+  unfolding report_entry tells tell on_accept printed
   printed_of old mid new answer r P (it e m) l =
       let o = l ∙ same_room old mid answer P in
       let v : and_then (take_set s) (need_room (length (report_text (set_of s))) old) ≡ Accepted = tells_accepted _ (length (report_text (set_of s)) ∷ []) (r ∷ []) (sym (ap length_tells e) ∙ P.answer) in
@@ -205,7 +203,7 @@ module _ (s : List ℕ) where
         fits = omega (arith, w.few, w.long, refusal_short);
       }
 
-pub says_report : (answer : LengthAnswer) (old : List ℕ) (bytes : ℕ) → answer ≡ long.Length bytes → Says answer old bytes old
+pub says_report : (answer : LengthAnswer) (old : List ℕ) (bytes : ℕ) → answer ≡ Ok bytes → Says answer old bytes old
 says_report answer old bytes e = it e refl
 
 pub says_refusal : (answer : LengthAnswer) (old new : List ℕ) (number place r : ℕ) → answer ≡ long.Refused number place → Wrote old 0 (refusal_line number place) refusal_room r new → Says answer old r new
@@ -216,8 +214,8 @@ pub one_print : (s old new new' : List ℕ) (r r' : ℕ) → Printed s old r new
 one_print s old new new' r r' p q = (p.long ∙ sym q.long, p.is ∙ sym q.is)
 
 -- a text that fits the lent room: what the answer then tells, and what the room then has
-pub copied_tells : (bytes : ℕ) (old : List ℕ) → bytes ≤ length old → tell (need_room bytes old) (bytes ∷ []) ≡ length_tells (long.Length bytes)
-unfolding length_tells tell
+pub copied_tells : (bytes : ℕ) (old : List ℕ) → bytes ≤ length old → tell (need_room bytes old) (bytes ∷ []) ≡ length_tells (Ok bytes)
+unfolding tells tell
 copied_tells bytes old l = rw (room_ok bytes old l)
 
 pub copied_leaves : (bytes old : List ℕ) → length bytes ≤ length old → on_accept (need_room (length bytes) old) (laid bytes old) old ≡ laid bytes old

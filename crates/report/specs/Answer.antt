@@ -1,15 +1,14 @@
 -- The tables that an answer of the entry `tables` goes with, and the text that the program prints.
-use Rattle.std.specs.Prelude.{◌≡◌, List, ℕ, ◌+◌, ◌*◌, ◌≤◌, length}
-use Rattle.rules.specs.declared.LengthAnswer.{LengthAnswer}
-use Rattle.rules.specs.declared.LengthAnswer.TheVariants as long
+use Rattle.std.specs.Prelude.{◌≡◌, List, ℕ, ◌+◌, ◌*◌, ◌≤◌, length, Ok}
 use Rattle.rules.specs.Basics.{laid}
-use Rattle.rules.specs.declared.Verdict.TheVariants.{Accepted}
+use Rattle.rules.specs.Verdict.{Accepted}
 use Rattle.rules.specs.Limits.{tables_length}
 use Rattle.rules.specs.File.{header_of, set_of}
 use Rattle.rules.specs.Judgement.{take_set}
 use Rattle.rules.specs.Report.{refusal_line, printed}
 use Rattle.rules.specs.Entries.Entry.{Promise}
 use Rattle.rules.specs.Entries.Tables.{tables_entry}
+use Rattle.rules.specs.Answers.{LengthAnswer}
 use Rattle.text.specs.Text.{Wrote, labelled_room}
 
 -- what the entry `tables` answered of file s, and the tables it left in room that is enough for them
@@ -24,7 +23,7 @@ refusal_room = 2 * labelled_room + 1
 
 -- what is said of an answer: the text that the report left, or else the refusal's line
 pub data Says (answer : LengthAnswer) (old : List ℕ) (r : ℕ) (new : List ℕ) : Type 0 where
-  it : answer ≡ long.Length r → new ≡ old → Says answer old r new
+  it : answer ≡ Ok r → new ≡ old → Says answer old r new
   line : (number place : ℕ) → answer ≡ long.Refused number place → Wrote old 0 (refusal_line number place) refusal_room r new → Says answer old r new
 
 -- what the program prints of file s stands at the front of the text, r bytes

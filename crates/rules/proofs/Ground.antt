@@ -5,3 +5,4 @@ pub mod Integers
 pub mod Sizes
 pub mod Rows
 pub mod Square
+pub mod Ruling

@@ -4,8 +4,7 @@ use Rattle.rules.specs.declared.Network.{Network}
 use Rattle.rules.specs.declared.Packet.{Packet}
 use Rattle.rules.specs.declared.Failure.{Failure}
 use Rattle.rules.specs.declared.Failure.TheVariants.{Nothing, Link, Node}
-use Rattle.rules.specs.declared.Verdict.{Verdict}
-use Rattle.rules.specs.declared.Verdict.TheVariants.{Accepted, Refused}
+use Rattle.rules.specs.Verdict.{Verdict, Accepted, Refused}
 use Rattle.rules.specs.Basics.{need, all}
 use Rattle.rules.specs.Limits.{need_counts, header_length, home_records, link_place, home_place, row_place, file_length}
 use Rattle.rules.specs.File.{Set, header_of, end_a, end_b, link_weight, home_node, home_topology, row_topology, row_weight, set_of}

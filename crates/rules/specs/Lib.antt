@@ -8,6 +8,7 @@ pub mod Isolation
 pub mod Distance
 pub mod Forwarding
 pub mod Building
+pub mod Verdict
 pub mod Judgement
 pub mod Report
 pub mod Answers

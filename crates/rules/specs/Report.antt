@@ -5,8 +5,7 @@ use Rattle.rules.specs.declared.Kind.TheVariants as change
 use Rattle.rules.specs.declared.Packet.{Packet}
 use Rattle.rules.specs.declared.Step.{Step}
 use Rattle.rules.specs.declared.Step.TheVariants.{Delivered, Moved, Dropped}
-use Rattle.rules.specs.declared.Verdict.{Verdict}
-use Rattle.rules.specs.declared.Verdict.TheVariants.{Accepted, Refused}
+use Rattle.rules.specs.Verdict.{Verdict, Accepted, Refused}
 use Rattle.rules.specs.Basics.{flat}
 use Rattle.rules.specs.File.{Set}
 use Rattle.rules.specs.Isolation.{link_between}

@@ -6,9 +6,14 @@
 ghost use Rattle.std.specs.Prelude.{◌≡◌, ◌*◌, ◌-◌, ◌≤◌, ◌<◌};
 ghost use Rattle.rules.specs.Limits.{restricted_weight, row_weights, row_length, home_records, file_length, tables_length, most_hops, trail_room, report_room, longest};
 ghost use Rattle.rules.specs.Forwarding.{entry_place};
+ghost use Rattle.rules.specs.Basics.{need};
+ghost use Rattle.rules.specs.Judgement.{refuse};
+ghost use Rattle.rules.specs.Verdict.{number_of, broken, says};
+
+use std::fmt;
 
 // The counts of a file's header, at the file's widths.
-#[derive(Clone, Copy)]
+#[derive(Clone, Copy, PartialEq, Eq)]
 pub struct Network {
     pub n: u8,
     pub m: u16,
@@ -17,7 +22,7 @@ pub struct Network {
 }
 
 // The longest of each thing that a caller lends room for.
-#[derive(Clone, Copy)]
+#[derive(Clone, Copy, PartialEq, Eq)]
 pub struct Longest {
     pub file: usize,
     pub tables: usize,
@@ -243,29 +248,124 @@ fn times(x: usize, y: usize) -> usize
     x * y
 }
 
-// What the judge and taking in say: accepted, or refused with 01's number and place.
-#[derive(Clone, Copy)]
-pub enum Verdict {
-    Accepted,
-    Refused { number: u8, place: usize },
+// The rule that refuses: 01's refusal numbers, in their order.
+#[derive(Clone, Copy, PartialEq, Eq)]
+pub enum Rule {
+    // 1: under 8 bytes, or a length that the counts do not give; a list too short for what is to be written.
+    Length,
+    // 2: a mark.
+    Mark,
+    // 3: n, m, k or wmax outside its range.
+    Counts,
+    // 4: a link's ends, or the order of links.
+    Ends,
+    // 5: a weight against its rule.
+    Weight,
+    // 6: a home's node or topology, or a row's topology.
+    Home,
+    // 7: a backbone that is empty or not connected.
+    Backbone,
+    // 8: an isolated node with fewer than two restricted links.
+    TwoLinks,
+    // 9: some one node without which the others are not connected.
+    CutNode,
+    // 10: first fit needs more than the cap.
+    Cap,
+    // 11: a node, destination, topology, failure or cap outside its range.
+    Range,
+    // 12: the source, or the packet's present node, is the failed node.
+    Source,
+    // 13: a graph alone where a set is needed, or a set given to the builder.
+    SetOrGraph,
+    // 14: lent room that is too short.
+    Room,
+    // 15: a table entry that the step looks up is no neighbour.
+    Lookup,
 }
 
-// What reading answers: the header, or the refusal.
-#[derive(Clone, Copy)]
-pub enum ReadAnswer {
-    Read(Network),
-    Refused { number: u8, place: usize },
+impl Rule {
+    // The number of 01.
+    // Rules out: numbers counted from 0 `rules_numbered_from_0`; the order's place of a rule, in which 13 comes before 7.
+    pub fn number(self) -> u8
+        ensures { result ≡ number_of self }
+    {
+        match self {
+            Rule::Length => 1,
+            Rule::Mark => 2,
+            Rule::Counts => 3,
+            Rule::Ends => 4,
+            Rule::Weight => 5,
+            Rule::Home => 6,
+            Rule::Backbone => 7,
+            Rule::TwoLinks => 8,
+            Rule::CutNode => 9,
+            Rule::Cap => 10,
+            Rule::Range => 11,
+            Rule::Source => 12,
+            Rule::SetOrGraph => 13,
+            Rule::Room => 14,
+            Rule::Lookup => 15,
+        }
+    }
+
+    // The refusal by this rule at a place.
+    // Rules out: place 0, whatever the place is `every_place_0`; another rule.
+    pub fn at(self, place: usize) -> Refusal
+        ensures { result ≡ record { rule = self; place = place } }
+    {
+        Refusal { rule: self, place }
+    }
 }
 
-// What writing, building, the tables and the report answer: how many bytes they wrote, or the refusal.
-#[derive(Clone, Copy)]
-pub enum LengthAnswer {
-    Length(usize),
-    Refused { number: u8, place: usize },
+// What is needed holds, or this rule refuses.
+// Rules out: a refusal where it holds `refused_where_it_holds`; nothing refused where it does not.
+#[tactic(auto, unfolding(crate::specs::Basics::need))]
+pub fn need(holds: bool, rule: Rule) -> Result<(), Rule>
+    ensures { broken result ≡ need holds (number_of rule) 0 }
+{
+    if holds { Ok(()) } else { Err(rule) }
 }
+
+// A refusal: the rule and the place, as 01's table says them.
+#[derive(Clone, Copy, PartialEq, Eq)]
+pub struct Refusal {
+    pub rule: Rule,
+    pub place: usize,
+}
+
+// The place of a rule that judges no record and no topology.
+impl From<Rule> for Refusal {
+    ghost from_gives = { λ rule refusal. refusal ≡ record { rule = rule; place = 0 } };
+
+    fn from(rule: Rule) -> Refusal {
+        rule.at(0)
+    }
+}
+
+// What a record or a topology that stands at this place breaks.
+// Rules out: accepted, although a rule is broken `a_broken_rule_accepted`; the place of the record before.
+#[tactic(auto, using(crate::proofs::Ground::Ruling::placing))]
+pub fn at(place: usize, judged: Result<(), Rule>) -> Verdict
+    ensures { says result ≡ refuse (broken judged) place }
+{
+    match judged {
+        Ok(()) => Ok(()),
+        Err(rule) => Err(rule.at(place)),
+    }
+}
+
+// As it is printed.
+impl fmt::Display for Refusal {
+    fn fmt<W: fmt::Write>(&self, f: &mut fmt::Formatter<W>) -> fmt::Result {
+        write!(f, "refused {} at {}", self.rule.number(), self.place)
+    }
+}
+
+// What the judge and taking in say: accepted, or refused. An entry answers with what it gives, or with the refusal.
+pub type Verdict = Result<(), Refusal>;
 
 // What is down: nothing, one link by its number in the file, or one node with all its links.
-#[derive(Clone, Copy)]
+#[derive(Clone, Copy, PartialEq, Eq)]
 pub enum Failure {
     Nothing,
     Link(u16),
@@ -273,7 +373,7 @@ pub enum Failure {
 }
 
 // A packet: where it is, where it goes, and the topology it is in.
-#[derive(Clone, Copy)]
+#[derive(Clone, Copy, PartialEq, Eq)]
 pub struct Packet {
     pub place: u8,
     pub destination: u8,
@@ -281,7 +381,7 @@ pub struct Packet {
 }
 
 // The kind of a change of topology, by 01's letters, or no change.
-#[derive(Clone, Copy)]
+#[derive(Clone, Copy, PartialEq, Eq)]
 pub enum Kind {
     Unchanged,
     T,
@@ -290,21 +390,15 @@ pub enum Kind {
 }
 
 // What one step makes of a packet: it was at its destination; it moved, with or without a change of topology; it was dropped.
-#[derive(Clone, Copy)]
+#[derive(Clone, Copy, PartialEq, Eq)]
 pub enum Step {
     Delivered(Packet),
     Moved(Packet, Kind),
     Dropped(Packet),
 }
 
-#[derive(Clone, Copy)]
-pub enum StepAnswer {
-    Taken(Step),
-    Refused { number: u8, place: usize },
-}
-
 // How a packet stands.
-#[derive(Clone, Copy)]
+#[derive(Clone, Copy, PartialEq, Eq)]
 pub enum Outcome {
     UnderWay,
     Delivered,
@@ -312,16 +406,10 @@ pub enum Outcome {
 }
 
 // A run to its end: how it ended, its hops, its last topology and the kind of its one change.
-#[derive(Clone, Copy)]
+#[derive(Clone, Copy, PartialEq, Eq)]
 pub struct Journey {
     pub outcome: Outcome,
     pub hops: u8,
     pub topology: u8,
     pub kind: Kind,
-}
-
-#[derive(Clone, Copy)]
-pub enum RunAnswer {
-    Ended(Journey),
-    Refused { number: u8, place: usize },
 }

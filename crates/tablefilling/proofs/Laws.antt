@@ -7,7 +7,7 @@ use native.Mathlib.Omega.{arith}
 use lib.ListN.{length, take, drop_of_length-le}
 use lib.Seq.{length-take-le}
 use Rattle.rules.specs.declared.Network.{Network}
-use Rattle.rules.specs.declared.Verdict.TheVariants.{Accepted}
+use Rattle.rules.specs.Verdict.{Accepted}
 use Rattle.rules.specs.Basics.{up_to, flat, laid}
 use Rattle.rules.specs.Limits.{row_weights, home_records}
 use Rattle.rules.specs.File.{Set, header_of, end_a, end_b, link_weight, home_topology, row_weight, set_of}

@@ -1,7 +1,7 @@
 -- Lists of the right lengths, and lists that hold a set.
 use Rattle.std.specs.Prelude.{◌≡◌, List, ℕ, ◌*◌, ◌≤◌, length}
 use Rattle.rules.specs.declared.Network.{Network}
-use Rattle.rules.specs.declared.Verdict.TheVariants.{Accepted}
+use Rattle.rules.specs.Verdict.{Accepted}
 use Rattle.rules.specs.Limits.{row_weights, largest}
 use Rattle.rules.specs.File.{set_of}
 use Rattle.rules.specs.Judgement.{take_set}

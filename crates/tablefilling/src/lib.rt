@@ -3,7 +3,7 @@
 #![tactic(auto)]
 
 ghost use Rattle.std.specs.Prelude.{◌≡◌, ◌*◌, length};
-ghost use Rattle.rules.specs.declared.Verdict.TheVariants.{Accepted};
+ghost use Rattle.rules.specs.Verdict.{Accepted};
 ghost use Rattle.rules.specs.Limits.{tables_length, largest};
 ghost use Rattle.rules.specs.File.{header_of, set_of};
 ghost use Rattle.rules.specs.Distance.{table_bytes};

@@ -1,4 +1,5 @@
 -- The entry's verdict and its promise.
+use Rattle.std.specs.Prelude.{Ok}
 use mathlib.Core.Path.{◌≡◌, refl, sym, ap, ap₂, ◌∙◌}
 use mathlib.Core.List.{List, ◌++◌}
 use Prim.Native.Nat.{ℕ, ◌≤◌}
@@ -7,15 +8,13 @@ use lib.ListN.{length, take, drop}
 use lib.Seq.{length-take-le}
 use borrow.Author.Tests.{leb-true}
 use Rattle.rules.specs.declared.Network.{Network}
-use Rattle.rules.specs.declared.Verdict.{Verdict}
-use Rattle.rules.specs.declared.Verdict.TheVariants.{Accepted, Refused}
-use Rattle.rules.specs.declared.LengthAnswer.TheVariants as long
+use Rattle.rules.specs.Verdict.{Verdict, Accepted, Refused}
 use Rattle.rules.specs.Basics.{need, laid}
 use Rattle.rules.specs.Limits.{tables_length}
 use Rattle.rules.specs.File.{header_of, set_of}
 use Rattle.rules.specs.Distance.{table_bytes}
 use Rattle.rules.specs.Judgement.{refuse, and_then, take_set, need_room}
-use Rattle.rules.specs.Answers.{tell, length_tells}
+use Rattle.rules.specs.Answers.{tell, length_tells, tells}
 use Rattle.rules.specs.Entries.Entry.{on_accept, Promise}
 use Rattle.rules.specs.Entries.Tables.{tables_entry}
 use Rattle.rules.proofs.Ground.Choices.{need_ok, refuse_zero, then_first, then_second}
@@ -53,8 +52,8 @@ part_long s out v h bytes t e n d = length-take-le bytes out (room_part s out v 
 pub is_taken : (s out : List ℕ) (v : Verdict) → v ≡ Accepted → v ≡ tables_verdict s (length out) → take_set s ≡ Accepted
 is_taken s out v t e = set_taken s out v t e
 
-pub tables_taken : (s out t : List ℕ) (v : Verdict) (h : Network) (bytes : ℕ) → v ≡ Accepted → v ≡ tables_verdict s (length out) → h ≡ header_of s → bytes ≡ tables_length h → t ≡ table_bytes (set_of s) → Promise tables_entry s out (long.Length bytes) (t ++ drop bytes out)
-unfolding tables_entry length_tells tell on_accept laid
+pub tables_taken : (s out t : List ℕ) (v : Verdict) (h : Network) (bytes : ℕ) → v ≡ Accepted → v ≡ tables_verdict s (length out) → h ≡ header_of s → bytes ≡ tables_length h → t ≡ table_bytes (set_of s) → Promise tables_entry s out (Ok bytes) (t ++ drop bytes out)
+unfolding tables_entry tells tell on_accept laid
 tables_taken s out t v h bytes e d n q g =
     let z : tables_entry.verdict s out ≡ Accepted = verdict_same s out ∙ sym d ∙ e in
     let b : bytes ≡ tables_length (header_of s) = q ∙ ap tables_length n in
@@ -62,7 +61,7 @@ tables_taken s out t v h bytes e d n q g =
     record { answer = rw (z, b); lent = rw z (ap₂ (λ (x : List ℕ) (y : ℕ). x ++ drop y out) g l) }
 
 pub tables_refused : (s out : List ℕ) (v : Verdict) (number place : ℕ) → v ≡ Refused number place → v ≡ tables_verdict s (length out) → Promise tables_entry s out (long.Refused number place) out
-unfolding tables_entry length_tells tell on_accept
+unfolding tables_entry tells tell on_accept
 tables_refused s out v number place e d =
     let z : tables_entry.verdict s out ≡ Refused number place = verdict_same s out ∙ sym d ∙ e in
     record { answer = rw z; lent = rw z }

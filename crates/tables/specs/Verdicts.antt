@@ -1,6 +1,6 @@
 -- The entry's verdict, as it is put together: a set taken in, then the room.
 use Rattle.std.specs.Prelude.{List, ℕ, leb}
-use Rattle.rules.specs.declared.Verdict.{Verdict}
+use Rattle.rules.specs.Verdict.{Verdict}
 use Rattle.rules.specs.Basics.{need}
 use Rattle.rules.specs.Limits.{tables_length}
 use Rattle.rules.specs.File.{header_of}

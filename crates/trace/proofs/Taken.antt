@@ -2,8 +2,7 @@
 use mathlib.Core.Path.{◌≡◌, sym, ◌∙◌}
 use mathlib.Core.List.{List}
 use Prim.Native.Nat.{ℕ}
-use Rattle.rules.specs.declared.Verdict.{Verdict}
-use Rattle.rules.specs.declared.Verdict.TheVariants.{Accepted}
+use Rattle.rules.specs.Verdict.{Verdict, Accepted}
 use Rattle.rules.specs.Judgement.{judge, take_set}
 use Rattle.rules.proofs.File.TakenIn.{set_file}
 

@@ -1,4 +1,5 @@
 -- What a laid file answers and leaves, and the promise of the entry.
+use Rattle.std.specs.Prelude.{Ok}
 use mathlib.Core.Path.{◌≡◌, refl, sym, ap, ap₂, subst, ◌∙◌}
 use mathlib.Core.List.{List, [], ◌∷◌, ◌++◌, append-nil}
 use Prim.Native.Nat.{ℕ, ◌≤◌}
@@ -8,15 +9,12 @@ use lib.ListN.{length, take, drop, drop_of_length-le}
 use lib.Seq.{length-take-le}
 use borrow.Author.Tests.{leb-true}
 use Rattle.rules.specs.declared.Network.{Network}
-use Rattle.rules.specs.declared.Verdict.{Verdict}
-use Rattle.rules.specs.declared.Verdict.TheVariants.{Accepted, Refused}
-use Rattle.rules.specs.declared.LengthAnswer.{LengthAnswer}
-use Rattle.rules.specs.declared.LengthAnswer.TheVariants as answer
+use Rattle.rules.specs.Verdict.{Verdict, Accepted, Refused}
 use Rattle.rules.specs.Basics.{need, laid}
 use Rattle.rules.specs.Limits.{need_counts, file_length, longest}
 use Rattle.rules.specs.File.{encode}
 use Rattle.rules.specs.Judgement.{refuse, and_then, take_in, need_room}
-use Rattle.rules.specs.Answers.{tell, length_tells}
+use Rattle.rules.specs.Answers.{LengthAnswer, tell, length_tells, tells}
 use Rattle.rules.specs.Entries.Entry.{on_accept, Promise}
 use Rattle.rules.specs.Entries.Lists.{Lists, lists, need_lists}
 use Rattle.rules.specs.Entries.Write.{set_with, write_entry}
@@ -73,13 +71,13 @@ module _ (s before : List ℕ) (v : Verdict) (verdict_is : v ≡ laid_verdict s 
   copy_fits t = leb-true _ _ (need_ok (leb (length s) (length before)) 13 0 (refuse_zero _ 0 (then_second _ _ (sym verdict_is ∙ t)))).0
 
   pub copied_refused : (number place : ℕ) → v ≡ Refused number place → Copied s before (answer.Refused number place) before
-  unfolding length_tells tell on_accept
+  unfolding tells tell on_accept
   copied_refused number place t =
       let same : laid_verdict s (length before) ≡ Refused number place = sym verdict_is ∙ t in
       record { answer = rw same; lent = rw same }
 
-  pub copied_taken : (bytes : ℕ) (after : List ℕ) → v ≡ Accepted → bytes ≡ length s → after ≡ s ++ drop (length s) before → Copied s before (answer.Length bytes) after
-  unfolding length_tells tell on_accept laid
+  pub copied_taken : (bytes : ℕ) (after : List ℕ) → v ≡ Accepted → bytes ≡ length s → after ≡ s ++ drop (length s) before → Copied s before (Ok bytes) after
+  unfolding tells tell on_accept laid
   copied_taken bytes after t eb ea =
       let same : laid_verdict s (length before) ≡ Accepted = sym verdict_is ∙ t in
       record { answer = rw (same, eb); lent = rw same ea }
@@ -121,7 +119,7 @@ module _ (h : Network) (a b weights homes rows file : List ℕ) (v : Verdict) (e
   lists_same = refl
 
   pub write_refused : (number place : ℕ) → v ≡ Refused number place → Promise write_entry (record { net = h; lists = given }) file (answer.Refused number place) file
-  unfolding write_entry length_tells tell on_accept given_verdict
+  unfolding write_entry tells tell on_accept given_verdict
   write_refused number place t =
       let same : write_entry.verdict (record { net = h; lists = given }) file ≡ Refused number place =
       entry_verdict ∙ ap (λ (x : Verdict). and_then (refuse (need_counts h 0) 0) (and_then x (laid_verdict (encode (set_with h given)) (length file)))) (sym lists_same)
@@ -132,7 +130,7 @@ module _ (h : Network) (a b weights homes rows file : List ℕ) (v : Verdict) (e
       }
 
   pub write_taken : (r : LengthAnswer) (after : List ℕ) → v ≡ Accepted → Copied (encode (set_with h given)) file r after → Promise write_entry (record { net = h; lists = given }) file r after
-  unfolding write_entry length_tells tell on_accept given_verdict set_with
+  unfolding write_entry tells tell on_accept given_verdict set_with
   write_taken r after t c =
       let same : write_entry.verdict (record { net = h; lists = given }) file ≡ laid_verdict (encode (set_with h given)) (length file) =
       entry_verdict ∙ ap (λ (x : Verdict). and_then (refuse (need_counts h 0) 0) (and_then x (laid_verdict (encode (set_with h given)) (length file)))) (sym lists_same)

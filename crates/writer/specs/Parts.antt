@@ -1,12 +1,11 @@
 -- What is asked before a file is laid, and what a laid file answers.
 use Rattle.std.specs.Prelude.{◌≡◌, List, [], ◌∷◌, ℕ, leb, length}
 use Rattle.rules.specs.declared.Network.{Network}
-use Rattle.rules.specs.declared.Verdict.{Verdict}
-use Rattle.rules.specs.declared.LengthAnswer.{LengthAnswer}
+use Rattle.rules.specs.Verdict.{Verdict}
 use Rattle.rules.specs.Basics.{need, laid}
 use Rattle.rules.specs.Limits.{need_counts}
 use Rattle.rules.specs.Judgement.{refuse, and_then, take_in}
-use Rattle.rules.specs.Answers.{tell, length_tells}
+use Rattle.rules.specs.Answers.{LengthAnswer, tell, length_tells}
 use Rattle.rules.specs.Entries.Entry.{on_accept}
 use Rattle.needs.specs.Numbers.{lists_verdict}
 

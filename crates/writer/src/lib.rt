@@ -6,7 +6,7 @@
 #![tactic(auto)]
 
 ghost use Rattle.std.specs.Prelude.{◌≡◌, length};
-ghost use Rattle.rules.specs.declared.Verdict.TheVariants.{Accepted};
+ghost use Rattle.rules.specs.Verdict.{Accepted};
 ghost use Rattle.rules.specs.Limits.{file_length};
 ghost use Rattle.rules.specs.File.{encode};
 ghost use Rattle.rules.specs.Entries.Entry.{Promise};

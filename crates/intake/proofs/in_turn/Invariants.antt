@@ -1,7 +1,7 @@
 use Prim.Native.Nat.{◌-◌, ◌≤◌}
 use mathlib.Core.Path.{◌≡◌}
 use Rattle.intake.specs.Graph.{turns_by}
-use Rattle.rules.specs.declared.Verdict.TheVariants.{Accepted}
+use Rattle.rules.specs.Verdict.{Accepted}
 use Rattle.intake.proofs.in_turn.Given as goal
 
 abbrev pub invariant-loop-j : goal.invariant-loop-j

@@ -1,12 +1,8 @@
 use mathlib.Core.Path.{◌≡◌}
 use mathlib.Core.Bool.{true}
-use Prim.Native.Nat.{◌-◌, ◌≤◌}
 use Rattle.rules.specs.Basics.{all}
 use Rattle.rules.specs.Judgement.{row_weight_fits}
 use Rattle.judgement.proofs.weights.Given as goal
 
 abbrev pub invariant-loop-l : goal.invariant-loop-l
-invariant-loop-l l = (l.l ≤ l.m) × (all (row_weight_fits l.file l.net l.j) l.l ≡ true)
-
-abbrev pub decreases-loop-l : goal.decreases-loop-l
-decreases-loop-l l = l.m - l.l
+invariant-loop-l l = all (row_weight_fits l.file l.net l.j) l.l ≡ true

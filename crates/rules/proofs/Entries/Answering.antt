@@ -1,25 +1,17 @@
 -- From a promise to what an entry returns: an answer that is no refusal goes with an accepted verdict, and with nothing else.
+use Rattle.std.specs.Prelude.{Ok}
 use mathlib.Core.Path.{◌≡◌, refl, sym, ap, ◌∙◌}
 use mathlib.Core.List.{List, [], ◌∷◌}
 use Prim.Native.Nat.{ℕ}
 use native.Mathlib.Omega.{arith}
 use Rattle.rules.specs.declared.Network.{Network}
 use Rattle.rules.specs.declared.Journey.{Journey}
-use Rattle.rules.specs.declared.Verdict.{Verdict}
-use Rattle.rules.specs.declared.Verdict.TheVariants.{Accepted, Refused}
+use Rattle.rules.specs.Verdict.{Verdict, Accepted, Refused}
 use Rattle.rules.specs.declared.Step.{Step}
-use Rattle.rules.specs.declared.ReadAnswer.{ReadAnswer}
-use Rattle.rules.specs.declared.ReadAnswer.TheVariants as read
-use Rattle.rules.specs.declared.LengthAnswer.{LengthAnswer}
-use Rattle.rules.specs.declared.LengthAnswer.TheVariants as long
-use Rattle.rules.specs.declared.StepAnswer.{StepAnswer}
-use Rattle.rules.specs.declared.StepAnswer.TheVariants as stepped
-use Rattle.rules.specs.declared.RunAnswer.{RunAnswer}
-use Rattle.rules.specs.declared.RunAnswer.TheVariants as ran
 use Rattle.rules.specs.Basics.{laid}
 use Rattle.rules.specs.File.{Set}
 use Rattle.rules.specs.Forwarding.{Run, hops}
-use Rattle.rules.specs.Answers.{accepted, tell, header_values, read_tells, length_tells, step_values, step_tells, journey_values, run_tells}
+use Rattle.rules.specs.Answers.{ReadAnswer, LengthAnswer, StepAnswer, RunAnswer, accepted, tell, header_values, read_tells, length_tells, step_values, step_tells, journey_values, run_tells, tells}
 use Rattle.rules.specs.Entries.Entry.{Entry, on_accept, Promise}
 use Rattle.rules.specs.Entries.Run.{run_values}
 use Rattle.rules.specs.Demands.Form.{AcceptsExactly, IsRead, IsLength, IsTaken, IsEnded, Front}
@@ -66,37 +58,37 @@ front_laid new old = record { is = laid_front new old; rest = laid_rest new old 
 -- ---- the answers that are no refusal
 
 pub read_values : (r : ReadAnswer) → IsRead r → (values : List ℕ) × (read_tells r ≡ accepted values)
-unfolding read_tells
+unfolding tells
 read_values r y = (header_values y.0, ap read_tells y.1)
 
-pub read_is : (r : ReadAnswer) (h : Network) → read_tells r ≡ accepted (header_values h) → r ≡ read.Read h
-unfolding read_tells
-read_is r h e = read_one r (read.Read h) e
+pub read_is : (r : ReadAnswer) (h : Network) → read_tells r ≡ accepted (header_values h) → r ≡ Ok h
+unfolding tells
+read_is r h e = read_one r (Ok h) e
 
 pub length_values : (r : LengthAnswer) → IsLength r → (values : List ℕ) × (length_tells r ≡ accepted values)
-unfolding length_tells
+unfolding tells
 length_values r y = (y.0 ∷ [], ap length_tells y.1)
 
-pub length_is : (r : LengthAnswer) (bytes : ℕ) → length_tells r ≡ accepted (bytes ∷ []) → r ≡ long.Length bytes
-unfolding length_tells
-length_is r bytes e = length_one r (long.Length bytes) e
+pub length_is : (r : LengthAnswer) (bytes : ℕ) → length_tells r ≡ accepted (bytes ∷ []) → r ≡ Ok bytes
+unfolding tells
+length_is r bytes e = length_one r (Ok bytes) e
 
 pub step_values_of : (r : StepAnswer) → IsTaken r → (values : List ℕ) × (step_tells r ≡ accepted values)
-unfolding step_tells
+unfolding tells
 step_values_of r y = (step_values y.0, ap step_tells y.1)
 
-pub step_is : (r : StepAnswer) (s : Step) → step_tells r ≡ accepted (step_values s) → r ≡ stepped.Taken s
-unfolding step_tells
-step_is r s e = step_one r (stepped.Taken s) e
+pub step_is : (r : StepAnswer) (s : Step) → step_tells r ≡ accepted (step_values s) → r ≡ Ok s
+unfolding tells
+step_is r s e = step_one r (Ok s) e
 
 pub run_values_of : (r : RunAnswer) → IsEnded r → (values : List ℕ) × (run_tells r ≡ accepted values)
-unfolding run_tells
+unfolding tells
 run_values_of r y = (journey_values y.0, ap run_tells y.1)
 
 -- a run as the answer has it
 abbrev pub journey_of : Run → Journey
 journey_of made = record { outcome = made.outcome; hops = hops made; topology = made.topology; kind = made.kind }
 
-pub run_is : (r : RunAnswer) (made : Run) → run_tells r ≡ accepted (run_values made) → r ≡ ran.Ended (journey_of made)
-unfolding run_tells run_values journey_values
-run_is r made e = run_one r (ran.Ended (journey_of made)) e
+pub run_is : (r : RunAnswer) (made : Run) → run_tells r ≡ accepted (run_values made) → r ≡ Ok (journey_of made)
+unfolding tells run_values journey_values
+run_is r made e = run_one r (Ok (journey_of made)) e

@@ -1,5 +1,6 @@
 -- Demand 3 of what the entry `build` returns: what it accepts, what it then answers and leaves, and that n as the cap succeeds exactly where any one node
 -- can be removed.
+use Rattle.std.specs.Prelude.{Ok}
 use mathlib.Core.Path.{◌≡◌, sym, ap, subst, ◌∙◌}
 use mathlib.Core.Bool.{true}
 use mathlib.Core.List.{List}
@@ -7,8 +8,7 @@ use Prim.Native.Nat.{ℕ, ◌≤◌}
 use native.Mathlib.Omega.{arith}
 use lib.ListN.{length}
 use Rattle.rules.specs.declared.Network.{Network}
-use Rattle.rules.specs.declared.Verdict.TheVariants.{Accepted, Refused}
-use Rattle.rules.specs.declared.LengthAnswer.TheVariants as long
+use Rattle.rules.specs.Verdict.{Accepted, Refused}
 use Rattle.rules.specs.Basics.{laid}
 use Rattle.rules.specs.Limits.{file_length}
 use Rattle.rules.specs.File.{Set, encode, header_of, set_of}
@@ -128,7 +128,7 @@ build_gives G i before after r P M =
       accepted = built_accepted G i.cap R M.cap.1 ok;
       built = built_by G i.cap ok R;
       topologies = built_topologies G i.cap ok R;
-      answer = length_is r (file_length (built (set_of i.file) i.cap).net) (told build_entry i before after r P e) ∙ ap (λ (T : Set). long.Length (file_length T.net)) same;
+      answer = length_is r (file_length (built (set_of i.file) i.cap).net) (told build_entry i before after r P e) ∙ ap (λ (T : Set). Ok (file_length T.net)) same;
       file = subst (λ (x : List ℕ). Front (encode (built G i.cap)) before x) (sym lent) (front_laid (encode (built G i.cap)) before);
     }
 

@@ -1,35 +1,27 @@
 -- Demand 1 of any entry: it takes every input, a refusal alters nothing, lengths are kept, and two results that its promise allows coincide. The answers that
 -- each telling has.
-use Rattle.std.specs.Prelude.{if◌then◌else◌}
+use Rattle.std.specs.Prelude.{if◌then◌else◌, Ok}
 use mathlib.Core.Path.{◌≡◌, refl, sym, ap, ap₂, ◌∙◌}
 use mathlib.Core.List.{List, [], ◌∷◌}
 use Prim.Native.Nat.{ℕ}
 use native.Mathlib.Omega.{arith}
 use lib.Dec.{eqb}
 use Rattle.rules.specs.Forwarding.{Run, hops, letter}
-use Rattle.rules.specs.Answers.{accepted, refused, tell, header_values, read_tells, length_tells, outcome_value, packet_values, step_values, step_tells, journey_values, run_tells}
+use Rattle.rules.specs.Answers.{ReadAnswer, LengthAnswer, StepAnswer, RunAnswer, accepted, refused, tell, header_values, read_tells, length_tells, outcome_value, packet_values, step_values, step_tells, journey_values, run_tells, tells}
 use Rattle.rules.specs.Entries.Entry.{Entry, on_accept}
 use Rattle.rules.specs.Entries.Run.{run_values}
 use Rattle.rules.specs.Demands.One.{Numbered, TakesEveryInput}
 use Rattle.rules.specs.declared.Network.{Network}
 use Rattle.rules.specs.declared.Packet.{Packet}
 use Rattle.rules.specs.declared.Journey.{Journey}
-use Rattle.rules.specs.declared.Verdict.{Verdict}
-use Rattle.rules.specs.declared.Verdict.TheVariants.{Accepted, Refused}
-use Rattle.rules.specs.declared.ReadAnswer.{ReadAnswer}
-use Rattle.rules.specs.declared.ReadAnswer.TheVariants as read
-use Rattle.rules.specs.declared.LengthAnswer.{LengthAnswer}
-use Rattle.rules.specs.declared.LengthAnswer.TheVariants as long
+use Rattle.rules.specs.Verdict.{Verdict, Accepted, Refused}
+use Rattle.rules.proofs.Ground.Ruling.{tells_one, tells_some}
 use Rattle.rules.specs.declared.Kind.{Kind}
 use Rattle.rules.specs.declared.Kind.TheVariants as change
 use Rattle.rules.specs.declared.Step.{Step}
 use Rattle.rules.specs.declared.Step.TheVariants.{Delivered, Moved, Dropped}
-use Rattle.rules.specs.declared.StepAnswer.{StepAnswer}
-use Rattle.rules.specs.declared.StepAnswer.TheVariants as stepped
 use Rattle.rules.specs.declared.Outcome.{Outcome}
 use Rattle.rules.specs.declared.Outcome.TheVariants as ended
-use Rattle.rules.specs.declared.RunAnswer.{RunAnswer}
-use Rattle.rules.specs.declared.RunAnswer.TheVariants as ran
 
 -- ---- an entry takes every input where each telling has an answer, and only one
 
@@ -40,7 +32,7 @@ tells_refused Accepted given number place e = let z : ◌≡◌ {A = ℕ} 0 1 = 
 tells_refused (Refused x y) given number place e = cc
 
 module _ {Input Lent Answer : Type 0} (E : Entry Input Lent Answer) (lengths : Lent → List ℕ)
-    (says : (v : Verdict) (i : Input) (before : Lent) → (r : Answer) × (E.tells r ≡ tell v (E.gives i before)))
+    (answered : (v : Verdict) (i : Input) (before : Lent) → Numbered v → (r : Answer) × (E.tells r ≡ tell v (E.gives i before)))
     (one : (r r' : Answer) → E.tells r ≡ E.tells r' → r ≡ r')
     (long : (i : Input) (before : Lent) → E.verdict i before ≡ Accepted → lengths (E.leaves i before) ≡ lengths before)
     (numbered : (i : Input) (before : Lent) → Numbered (E.verdict i before)) where
@@ -54,7 +46,7 @@ module _ {Input Lent Answer : Type 0} (E : Entry Input Lent Answer) (lengths : L
   takes_every_input =
       record {
         taken = λ i before.
-            let s = says (E.verdict i before) i before in
+            let s = answered (E.verdict i before) i before (numbered i before) in
             (s.0, on_accept (E.verdict i before) (E.leaves i before) before, record { answer = s.1; lent = refl });
         refuses = λ i before r after number place P e. P.answer ∙ rw e;
         numbered = λ i before r after number place P e.
@@ -76,22 +68,14 @@ header_one h h' e =
     let w : h.wmax ≡ h'.wmax = cc in
     λ i. record { n = n i; m = m i; k = k i; wmax = w i }
 
-values_of : (l l' : List ℕ) → accepted l ≡ accepted l' → l ≡ l'
-values_of l l' e = cc
-
 pub read_one : (r r' : ReadAnswer) → read_tells r ≡ read_tells r' → r ≡ r'
-unfolding read_tells
-read_one (read.Read h) (read.Read h') e = ap read.Read (header_one h h' (values_of (header_values h) (header_values h') e))
-read_one (read.Read h) (read.Refused number place) e = cc
-read_one (read.Refused number place) (read.Read h) e = cc
-read_one (read.Refused number place) (read.Refused c p) e = cc
+read_one r r' e = tells_one header_values header_one r r' e
+
+length_values_one : (b b' : ℕ) → b ∷ [] ≡ b' ∷ [] → b ≡ b'
+length_values_one b b' e = cc
 
 pub length_one : (r r' : LengthAnswer) → length_tells r ≡ length_tells r' → r ≡ r'
-unfolding length_tells
-length_one (long.Length b) (long.Length b') e = cc
-length_one (long.Length b) (long.Refused number place) e = cc
-length_one (long.Refused number place) (long.Length b) e = cc
-length_one (long.Refused number place) (long.Refused c p) e = cc
+length_one r r' e = tells_one (λ b. b ∷ []) length_values_one r r' e
 
 -- a kind by its letter
 kind_for : ℕ → Kind
@@ -151,11 +135,7 @@ steps_one (Dropped p) (Moved q k) e = absurd (apart 2 _ 0 _ _ _ (λ z. omega ari
 steps_one (Dropped p) (Dropped q) e = ap Dropped (packet_one p q (tail_of _ _ _ _ (packet_values p) (packet_values q) e).2)
 
 pub step_one : (r r' : StepAnswer) → step_tells r ≡ step_tells r' → r ≡ r'
-unfolding step_tells
-step_one (stepped.Taken s) (stepped.Taken s') e = ap stepped.Taken (steps_one s s' (values_of (step_values s) (step_values s') e))
-step_one (stepped.Taken s) (stepped.Refused number place) e = cc
-step_one (stepped.Refused number place) (stepped.Taken s) e = cc
-step_one (stepped.Refused number place) (stepped.Refused c p) e = cc
+step_one r r' e = tells_one step_values steps_one r r' e
 
 journey_one : (j j' : Journey) → journey_values j ≡ journey_values j' → j ≡ j'
 unfolding journey_values
@@ -167,30 +147,19 @@ journey_one j j' e =
     λ i. record { outcome = o i; hops = h i; topology = t i; kind = k i }
 
 pub run_one : (r r' : RunAnswer) → run_tells r ≡ run_tells r' → r ≡ r'
-unfolding run_tells
-run_one (ran.Ended j) (ran.Ended j') e = ap ran.Ended (journey_one j j' (values_of (journey_values j) (journey_values j') e))
-run_one (ran.Ended j) (ran.Refused number place) e = cc
-run_one (ran.Refused number place) (ran.Ended j) e = cc
-run_one (ran.Refused number place) (ran.Refused c p) e = cc
+run_one r r' e = tells_one journey_values journey_one r r' e
 
 -- ---- each telling has an answer
 
-pub length_says : (v : Verdict) (bytes : ℕ) → (r : LengthAnswer) × (length_tells r ≡ tell v (bytes ∷ []))
-unfolding length_tells tell
-length_says Accepted bytes = (long.Length bytes, refl)
-length_says (Refused number place) bytes = (long.Refused number place, refl)
+pub length_says : (v : Verdict) (bytes : ℕ) → Numbered v → (r : LengthAnswer) × (length_tells r ≡ tell v (bytes ∷ []))
+length_says v bytes f = tells_some (λ b. b ∷ []) bytes v f
 
-pub read_says : (v : Verdict) (h : Network) → (r : ReadAnswer) × (read_tells r ≡ tell v (header_values h))
-unfolding read_tells tell
-read_says Accepted h = (read.Read h, refl)
-read_says (Refused number place) h = (read.Refused number place, refl)
+pub read_says : (v : Verdict) (h : Network) → Numbered v → (r : ReadAnswer) × (read_tells r ≡ tell v (header_values h))
+read_says v h f = tells_some header_values h v f
 
-pub step_says : (v : Verdict) (s : Step) → (r : StepAnswer) × (step_tells r ≡ tell v (step_values s))
-unfolding step_tells tell
-step_says Accepted s = (stepped.Taken s, refl)
-step_says (Refused number place) s = (stepped.Refused number place, refl)
+pub step_says : (v : Verdict) (s : Step) → Numbered v → (r : StepAnswer) × (step_tells r ≡ tell v (step_values s))
+step_says v s f = tells_some step_values s v f
 
-pub run_says : (v : Verdict) (r : Run) → (a : RunAnswer) × (run_tells a ≡ tell v (run_values r))
-unfolding run_tells tell run_values journey_values
-run_says Accepted r = (ran.Ended (record { outcome = r.outcome; hops = hops r; topology = r.topology; kind = r.kind }), refl)
-run_says (Refused number place) r = (ran.Refused number place, refl)
+pub run_says : (v : Verdict) (r : Run) → Numbered v → (a : RunAnswer) × (run_tells a ≡ tell v (run_values r))
+unfolding run_values journey_values
+run_says v r f = tells_some journey_values (record { outcome = r.outcome; hops = hops r; topology = r.topology; kind = r.kind }) v f

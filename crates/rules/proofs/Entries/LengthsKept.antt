@@ -4,7 +4,7 @@ use mathlib.Core.List.{List, [], ◌∷◌}
 use Prim.Native.Nat.{ℕ, ◌≤◌, ◌<◌}
 use native.Mathlib.Omega.{arith}
 use lib.ListN.{length}
-use Rattle.rules.specs.declared.Verdict.TheVariants.{Accepted}
+use Rattle.rules.specs.Verdict.{Accepted}
 use Rattle.rules.specs.Basics.{laid}
 use Rattle.rules.specs.Limits.{file_length, tables_length, most_hops, trail_room}
 use Rattle.rules.specs.File.{Set, encode, header_of, set_of}

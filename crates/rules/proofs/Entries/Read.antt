@@ -1,10 +1,10 @@
 -- Demand 2 of the entry `read`: what it accepts, and what it then answers and leaves.
+use Rattle.std.specs.Prelude.{Ok}
 use mathlib.Core.Path.{◌≡◌, sym, ap, subst, ◌∙◌}
 use mathlib.Core.List.{List}
 use Prim.Native.Nat.{ℕ}
 use Rattle.rules.specs.declared.Network.{Network}
-use Rattle.rules.specs.declared.Verdict.TheVariants.{Accepted, Refused}
-use Rattle.rules.specs.declared.ReadAnswer.TheVariants as read
+use Rattle.rules.specs.Verdict.{Accepted, Refused}
 use Rattle.rules.specs.File.{Set, header_of, set_of}
 use Rattle.rules.specs.Judgement.{take_in}
 use Rattle.rules.specs.Entries.Lists.{Lists, need_lists, LongLists}
@@ -60,7 +60,7 @@ read_gives S s before after r P M =
     let lent : after ≡ lists_with S before = left read_entry s before after r P e ∙ ap (λ (x : Set). lists_with x before) T in
     subst (λ (x : Lists). ReadGives S s before r x) (sym lent)
     (record {
-      answer = read_is r (header_of s) (told read_entry s before after r P e) ∙ ap read.Read (file_header S s (its_file S s M.file));
+      answer = read_is r (header_of s) (told read_entry s before after r P e) ∙ ap Ok (file_header S s (its_file S s M.file));
       a = front_laid S.a before.a;
       b = front_laid S.b before.b;
       weights = front_laid S.weights before.weights;

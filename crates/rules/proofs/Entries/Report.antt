@@ -1,10 +1,10 @@
 -- Of the entry `report`: what it accepts, and what it then answers and leaves.
+use Rattle.std.specs.Prelude.{Ok}
 use mathlib.Core.Path.{◌≡◌, sym, ap, subst, ◌∙◌}
 use mathlib.Core.List.{List}
 use Prim.Native.Nat.{ℕ}
 use lib.ListN.{length}
-use Rattle.rules.specs.declared.Verdict.TheVariants.{Accepted, Refused}
-use Rattle.rules.specs.declared.LengthAnswer.TheVariants as long
+use Rattle.rules.specs.Verdict.{Accepted, Refused}
 use Rattle.rules.specs.Basics.{laid}
 use Rattle.rules.specs.Limits.{longest}
 use Rattle.rules.specs.File.{Set, set_of}
@@ -51,7 +51,7 @@ report_gives S s before after r P M =
     let T = its_set S s M.file in
     let lent : after ≡ laid (report_text S) before = left report_entry s before after r P e ∙ ap (λ (x : Set). laid (report_text x) before) T in
     record {
-      answer = length_is r (length (report_text (set_of s))) (told report_entry s before after r P e) ∙ ap (λ (x : Set). long.Length (length (report_text x))) T;
+      answer = length_is r (length (report_text (set_of s))) (told report_entry s before after r P e) ∙ ap (λ (x : Set). Ok (length (report_text x))) T;
       text = subst (λ (x : List ℕ). Front (report_text S) before x) (sym lent) (front_laid (report_text S) before);
     }
 

@@ -1,4 +1,5 @@
 -- Demand 3 of what the entry `run` returns: what it accepts, what it then answers and leaves, and that it is delivered where the destination is up.
+use Rattle.std.specs.Prelude.{Ok}
 use mathlib.Core.Path.{◌≡◌, refl, sym, ap, subst, ◌∙◌}
 use mathlib.Core.List.{List}
 use Prim.Native.Nat.{ℕ, suc}
@@ -7,11 +8,8 @@ use lib.ListN.{take}
 use borrow.Author.Tests.{eqb-true}
 use Rattle.rules.specs.declared.Failure.{Failure}
 use Rattle.rules.specs.declared.Failure.TheVariants.{Nothing, Link, Node}
-use Rattle.rules.specs.declared.Verdict.TheVariants.{Accepted, Refused}
+use Rattle.rules.specs.Verdict.{Accepted, Refused}
 use Rattle.rules.specs.declared.Outcome.{Outcome}
-use Rattle.rules.specs.declared.LengthAnswer.{LengthAnswer}
-use Rattle.rules.specs.declared.RunAnswer.{RunAnswer}
-use Rattle.rules.specs.declared.RunAnswer.TheVariants as ran
 use Rattle.rules.specs.Basics.{laid}
 use Rattle.rules.specs.Limits.{tables_length, most_hops, trail_room}
 use Rattle.rules.specs.File.{Set, header_of, set_of}
@@ -35,6 +33,7 @@ use Rattle.rules.proofs.Forwarding.Delivery.{delivery}
 use Rattle.rules.proofs.Forwarding.LentTables.{lent_agree, run_same}
 use Rattle.rules.proofs.Entries.Answering.{told, left, accepts, front_laid, run_values_of, journey_of, run_is}
 use Rattle.rules.proofs.Entries.Tables.{tables_meets}
+use Rattle.rules.specs.Answers.{LengthAnswer, RunAnswer}
 use Rattle.rules.proofs.Refusals.Needs.{room_ok, room_long, packet_needed, packet_given, source_needed, source_given, standing_up}
 
 -- one failed node is nodes of one home
@@ -105,9 +104,9 @@ module _ (S : Set) (i : RunInput) (before after : RunLent) (r : RunAnswer) (P : 
       ap (λ (d : RunLent). d.trail) (left run_entry i before after r P (run_meets S i before M))
       ∙ ap (λ (x : Run). laid (trail i.source x) before.trail) rule
 
-  its_answer : r ≡ ran.Ended (journey_of made)
+  its_answer : r ≡ Ok (journey_of made)
   unfolding run_entry
-  its_answer = run_is r (run_of i) (told run_entry i before after r P (run_meets S i before M)) ∙ ap (λ (x : Run). ran.Ended (journey_of x)) rule
+  its_answer = run_is r (run_of i) (told run_entry i before after r P (run_meets S i before M)) ∙ ap (λ (x : Run). Ok (journey_of x)) rule
 
 pub run_gives : ThenGives run_entry RunMeets RunGives
 unfolding run_entry tables_entry run_under
@@ -149,6 +148,6 @@ delivered_by_run S i before after r P M alive =
       rule = refl;
       delivered = d;
       answer = its_answer S i before after r P M
-          ∙ ap (λ (o : Outcome). ran.Ended (record { outcome = o; hops = hops (made S i before after r P M); topology = (made S i before after r P M).topology; kind = (made S i before after r P M).kind })) d.outcome;
+          ∙ ap (λ (o : Outcome). Ok (record { outcome = o; hops = hops (made S i before after r P M); topology = (made S i before after r P M).topology; kind = (made S i before after r P M).kind })) d.outcome;
       written = ap (λ (t : List ℕ). take (suc (hops (made S i before after r P M))) t) (its_trail S i before after r P M) ∙ laid_front (trail i.source (made S i before after r P M)) before.trail;
     }

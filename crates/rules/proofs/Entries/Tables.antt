@@ -1,4 +1,5 @@
 -- Demand 2 of the entry `tables`: what it accepts, and what it then answers and leaves, byte by byte.
+use Rattle.std.specs.Prelude.{Ok}
 use mathlib.Core.Path.{◌≡◌, refl, sym, ap, subst, ◌∙◌}
 use mathlib.Core.Bool.{Bool, true, false, not, ◌&&◌}
 use mathlib.Core.Logic.{◌⊎◌, inl, inr}
@@ -9,8 +10,7 @@ use lib.Dec.{eqb}
 use lib.ListN.{length, get_or, drop}
 use borrow.Author.Tests.{eq-eqb}
 use Rattle.rules.specs.declared.Network.{Network}
-use Rattle.rules.specs.declared.Verdict.TheVariants.{Accepted, Refused}
-use Rattle.rules.specs.declared.LengthAnswer.TheVariants as long
+use Rattle.rules.specs.Verdict.{Accepted, Refused}
 use Rattle.rules.specs.Basics.{laid}
 use Rattle.rules.specs.Limits.{tables_length}
 use Rattle.rules.specs.File.{Set, header_of, set_of}
@@ -90,7 +90,7 @@ tables_gives S s before after r P M =
     ∙ last_at (next_hop S) (alternate S) n c u v lu lv
     in
     record {
-      answer = length_is r (tables_length (header_of s)) (told tables_entry s before after r P e) ∙ ap (λ (h : Network). long.Length (tables_length h)) (its_header S s M.file);
+      answer = length_is r (tables_length (header_of s)) (told tables_entry s before after r P e) ∙ ap (λ (h : Network). Ok (tables_length h)) (its_header S s M.file);
       next = λ i u t li lu lt ne. subst (λ (w : ℕ). NextHopIs S i u t w) (sym (next_there i u t li lu lt)) (least_next_hops S A i u t li lu lt ne);
       own = λ i u li lu. next_there i u u li lu lu ∙ own_entry S i u;
       alternate = λ u v lu lv joined apart. subst (λ (w : ℕ). AlternateIs S u v w) (sym (alternate_there u v lu lv)) (nearest_alternates S A u v lu lv joined apart);

@@ -17,7 +17,7 @@ use Rattle.rules.specs.declared.Outcome.{Outcome}
 use Rattle.rules.specs.declared.Outcome.TheVariants as ended
 use Rattle.rules.specs.declared.Step.{Step}
 use Rattle.rules.specs.declared.Step.TheVariants.{Delivered, Moved, Dropped}
-use Rattle.rules.specs.declared.Verdict.TheVariants.{Accepted}
+use Rattle.rules.specs.Verdict.{Accepted}
 use Rattle.rules.specs.Limits.{need_counts, file_length, tables_length, most_hops, report_room}
 use Rattle.rules.specs.File.{Set, header_of, set_of}
 use Rattle.rules.specs.Isolation.{neighbours, home}

@@ -1,10 +1,10 @@
 -- Demand 2 of the entry `write`: what it accepts, and what it then answers and leaves.
+use Rattle.std.specs.Prelude.{Ok}
 use mathlib.Core.Path.{◌≡◌, refl, sym, ap, subst, ◌∙◌}
 use mathlib.Core.List.{List}
 use Prim.Native.Nat.{ℕ, ◌*◌}
 use Rattle.rules.specs.declared.Network.{Network}
-use Rattle.rules.specs.declared.Verdict.TheVariants.{Accepted, Refused}
-use Rattle.rules.specs.declared.LengthAnswer.TheVariants as long
+use Rattle.rules.specs.Verdict.{Accepted, Refused}
 use Rattle.rules.specs.Basics.{laid}
 use Rattle.rules.specs.Limits.{need_counts, row_weights, home_records, file_length}
 use Rattle.rules.specs.File.{Set, encode}
@@ -80,6 +80,6 @@ write_gives S i before after r P M =
     let net : i.net ≡ S.net = ap (λ (x : Set). x.net) (sym M.set) in
     let lent : after ≡ laid (encode S) before = left write_entry i before after r P e ∙ ap (λ (x : List ℕ). laid x before) bytes in
     record {
-      answer = length_is r (file_length i.net) (told write_entry i before after r P e) ∙ ap (λ (h : Network). long.Length (file_length h)) net;
+      answer = length_is r (file_length i.net) (told write_entry i before after r P e) ∙ ap (λ (h : Network). Ok (file_length h)) net;
       file = subst (λ (x : List ℕ). Front (encode S) before x) (sym lent) (front_laid (encode S) before);
     }

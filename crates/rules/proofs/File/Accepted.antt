@@ -8,7 +8,7 @@ use native.Mathlib.Omega.{arith}
 use lib.Dec.{eqb}
 use lib.ListN.{length, get_or}
 use Rattle.rules.specs.declared.Network.{Network}
-use Rattle.rules.specs.declared.Verdict.TheVariants.{Accepted}
+use Rattle.rules.specs.Verdict.{Accepted}
 use Rattle.rules.specs.Limits.{row_weights, row_length, home_records, link_place, home_place, row_place, file_length}
 use Rattle.rules.specs.File.{Set, encode, header_of, end_a, end_b, home_topology, set_of}
 use Rattle.rules.specs.Isolation.{home, isolated, Class, class_by, class, weight_fits, row_in_force}

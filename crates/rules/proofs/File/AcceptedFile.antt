@@ -3,7 +3,7 @@
 use mathlib.Core.Path.{◌≡◌, sym, ap, ◌∙◌}
 use mathlib.Core.List.{List}
 use Prim.Native.Nat.{ℕ}
-use Rattle.rules.specs.declared.Verdict.TheVariants.{Accepted}
+use Rattle.rules.specs.Verdict.{Accepted}
 use Rattle.rules.specs.File.{Set, header_of, set_of}
 use Rattle.rules.specs.Judgement.{take_set}
 use Rattle.rules.specs.Sets.{Bytes, FileOf, AcceptedFile}

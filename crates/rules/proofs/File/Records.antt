@@ -9,7 +9,7 @@ use lib.Dec.{eqb, ltb, leb}
 use lib.ListN.{length}
 use borrow.Author.Tests.{ltb-true, leb-true, eqb-true, lt-ltb, le-leb, eq-eqb}
 use Rattle.rules.specs.declared.Network.{Network}
-use Rattle.rules.specs.declared.Verdict.TheVariants.{Accepted}
+use Rattle.rules.specs.Verdict.{Accepted}
 use Rattle.rules.specs.Limits.{need_counts, home_records, link_place, home_place, row_place, file_length}
 use Rattle.rules.specs.File.{header_of, end_a, end_b, link_weight, home_node, home_topology, row_topology}
 use Rattle.rules.specs.Isolation.{Class, Isolated, Restricted, Normal, weight_fits}

@@ -4,7 +4,7 @@ use mathlib.Core.Path.{◌≡◌, sym, ap, subst, ◌∙◌}
 use mathlib.Core.List.{List}
 use Prim.Native.Nat.{ℕ, ◌≤◌}
 use native.Mathlib.Omega.{arith}
-use Rattle.rules.specs.declared.Verdict.TheVariants.{Accepted, Refused}
+use Rattle.rules.specs.Verdict.{Accepted, Refused}
 use Rattle.rules.specs.File.{Set, encode, header_of, set_of}
 use Rattle.rules.specs.Judgement.{judge, topologies, take_in, need_set, take_set}
 use Rattle.rules.specs.Sets.{Bytes, Published, PublishedFile, AcceptedSet}

@@ -12,7 +12,7 @@ use Rattle.rules.specs.declared.Network.{Network}
 use Rattle.rules.specs.declared.Packet.{Packet}
 use Rattle.rules.specs.declared.Failure.{Failure}
 use Rattle.rules.specs.declared.Failure.TheVariants.{Nothing, Link, Node}
-use Rattle.rules.specs.declared.Verdict.TheVariants.{Accepted}
+use Rattle.rules.specs.Verdict.{Accepted}
 use Rattle.rules.specs.Basics.{need}
 use Rattle.rules.specs.Forwarding.{fault_of, failed}
 use Rattle.rules.specs.Judgement.{need_set, need_graph, need_failure, need_packet, need_cap, source_number, need_source, need_room}

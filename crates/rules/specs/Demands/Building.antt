@@ -1,9 +1,7 @@
 -- Demand 3, of the builder. "Our builder, allowed n topologies, succeeds exactly when removing any one router leaves the others connected." Then what the graph of
 -- every accepted set is.
-use Rattle.std.specs.Prelude.{◌≡◌, ◌↔◌, Bool, true, not, ◌&&◌, List, ℕ, ◌≤◌, ◌<◌, eqb, ltb, length, set, if◌then◌else◌}
+use Rattle.std.specs.Prelude.{◌≡◌, ◌↔◌, Bool, true, not, ◌&&◌, List, ℕ, ◌≤◌, ◌<◌, eqb, ltb, length, set, if◌then◌else◌, Ok}
 use Rattle.rules.specs.declared.Network.{Network}
-use Rattle.rules.specs.declared.LengthAnswer.{LengthAnswer}
-use Rattle.rules.specs.declared.LengthAnswer.TheVariants as long
 use Rattle.rules.specs.Basics.{up_to}
 use Rattle.rules.specs.Limits.{file_length}
 use Rattle.rules.specs.File.{Set, encode}
@@ -12,6 +10,7 @@ use Rattle.rules.specs.Building.{with_homes, first_fit, fits, highest, built, bu
 use Rattle.rules.specs.Entries.Entry.{Promise}
 use Rattle.rules.specs.Entries.Build.{BuildInput, build_entry}
 use Rattle.rules.specs.Sets.{at, MeetsRules, FileOf, Walk, Sound, AcceptedSet}
+use Rattle.rules.specs.Answers.{LengthAnswer}
 use Rattle.rules.specs.Demands.Form.{IsLength, Front}
 
 -- u and w are joined by a link, and neither is v
@@ -82,7 +81,7 @@ pub record BuildGives (G : Set) (i : BuildInput) (before : List ℕ) (r : Length
   pub accepted : AcceptedSet set
   pub built : BuiltBy G set
   pub topologies : set.net.k ≡ topologies_needed G
-  pub answer : r ≡ long.Length (file_length set.net)
+  pub answer : r ≡ Ok (file_length set.net)
   pub file : Front (encode set) before after
 
 -- demand 3 of what the entry `build` returns, given n as its cap and room for the set: a length exactly when any one node can be removed

@@ -1,16 +1,15 @@
 -- Demand 3, of the entry `report`: what it accepts, what it then answers and leaves, and that its lines cover every detection. Then 02's request a: the extra hops
 -- of its lines.
-use Rattle.std.specs.Prelude.{◌≡◌, ◌⊎◌, List, ◌∷◌, ◌++◌, ℕ, suc, ◌-◌, ◌*◌, ◌/◌, ◌%◌, ◌≤◌, ◌<◌, ltb, pos, neg_ℤ, nat_abs, ◌+ℤ◌, length, ◌≤ℤ◌, ◌<ℤ◌, if◌then◌else◌}
+use Rattle.std.specs.Prelude.{◌≡◌, ◌⊎◌, List, ◌∷◌, ◌++◌, ℕ, suc, ◌-◌, ◌*◌, ◌/◌, ◌%◌, ◌≤◌, ◌<◌, ltb, pos, neg_ℤ, nat_abs, ◌+ℤ◌, length, ◌≤ℤ◌, ◌<ℤ◌, if◌then◌else◌, Ok}
 use Rattle.rules.specs.declared.Kind.TheVariants as change
 use Rattle.rules.specs.declared.Step.TheVariants.{Moved}
-use Rattle.rules.specs.declared.LengthAnswer.{LengthAnswer}
-use Rattle.rules.specs.declared.LengthAnswer.TheVariants as long
 use Rattle.rules.specs.Basics.{flat}
 use Rattle.rules.specs.Limits.{longest}
 use Rattle.rules.specs.File.{Set}
 use Rattle.rules.specs.Forwarding.{link, packet, Run, run_under}
 use Rattle.rules.specs.Report.{decimal, signed, newline, kind_of, detected_link, detection, backup_hops, plain_hops, extra_hops, detection_line, detection_lines, report_text}
 use Rattle.rules.specs.Sets.{at, AcceptedSet, AcceptedFile}
+use Rattle.rules.specs.Answers.{LengthAnswer}
 use Rattle.rules.specs.Demands.Form.{Front}
 
 -- report accepts exactly when the bytes are an accepted set's and its text has room
@@ -20,7 +19,7 @@ pub record ReportMeets (S : Set) (s lent : List ℕ) : Type 0 where
 
 -- and then it answers the text's length and leaves the text at the front of the room
 pub record ReportGives (S : Set) (s before : List ℕ) (r : LengthAnswer) (after : List ℕ) : Type 0 where
-  pub answer : r ≡ long.Length (length (report_text S))
+  pub answer : r ≡ Ok (length (report_text S))
   pub text : Front (report_text S) before after
 
 -- room for the longest report is room for every accepted set's

@@ -1,17 +1,10 @@
 -- What demands 2 and 3 say of an entry: two statements of what it returns, in one form for all seven.
-use Rattle.std.specs.Prelude.{◌≡◌, ◌↔◌, List, ℕ, length, take, drop}
+use Rattle.std.specs.Prelude.{◌≡◌, ◌↔◌, List, ℕ, length, take, drop, Ok}
 use Rattle.rules.specs.declared.Network.{Network}
 use Rattle.rules.specs.declared.Step.{Step}
-use Rattle.rules.specs.declared.StepAnswer.{StepAnswer}
-use Rattle.rules.specs.declared.StepAnswer.TheVariants as stepped
 use Rattle.rules.specs.declared.Journey.{Journey}
-use Rattle.rules.specs.declared.ReadAnswer.{ReadAnswer}
-use Rattle.rules.specs.declared.ReadAnswer.TheVariants as read
-use Rattle.rules.specs.declared.LengthAnswer.{LengthAnswer}
-use Rattle.rules.specs.declared.LengthAnswer.TheVariants as long
-use Rattle.rules.specs.declared.RunAnswer.{RunAnswer}
-use Rattle.rules.specs.declared.RunAnswer.TheVariants as ran
 use Rattle.rules.specs.File.{Set}
+use Rattle.rules.specs.Answers.{StepAnswer, ReadAnswer, LengthAnswer, RunAnswer}
 use Rattle.rules.specs.Entries.Entry.{Entry, Promise}
 
 -- it accepts exactly when, for some set S, `Meets` holds of what it is given and lent. `Yes` is an answer that is no refusal; `Fair` says of the input what
@@ -27,16 +20,16 @@ ThenGives {Input} {Lent} {Answer} E Meets Gives =
 
 -- answers that are no refusal
 abbrev pub IsRead : ReadAnswer → Type 0
-IsRead r = (h : Network) × (r ≡ read.Read h)
+IsRead r = (h : Network) × (r ≡ Ok h)
 
 abbrev pub IsLength : LengthAnswer → Type 0
-IsLength r = (bytes : ℕ) × (r ≡ long.Length bytes)
+IsLength r = (bytes : ℕ) × (r ≡ Ok bytes)
 
 abbrev pub IsTaken : StepAnswer → Type 0
-IsTaken r = (s : Step) × (r ≡ stepped.Taken s)
+IsTaken r = (s : Step) × (r ≡ Ok s)
 
 abbrev pub IsEnded : RunAnswer → Type 0
-IsEnded r = (j : Journey) × (r ≡ ran.Ended j)
+IsEnded r = (j : Journey) × (r ≡ Ok j)
 
 -- `new` stands at the front of lent room, and what lies past it is as it came
 pub record Front (new before after : List ℕ) : Type 0 where

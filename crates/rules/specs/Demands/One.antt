@@ -1,8 +1,7 @@
 -- Demand 1. "Every entry takes every input. What is outside the written limits is refused by number and place, nothing lent is altered, no caller has to check
 -- first."
 use Rattle.std.specs.Prelude.{◌≡◌, List, [], ◌∷◌, ℕ, ◌≤◌, ◌<◌, length}
-use Rattle.rules.specs.declared.Verdict.{Verdict}
-use Rattle.rules.specs.declared.Verdict.TheVariants.{Refused}
+use Rattle.rules.specs.Verdict.{Verdict, Refused}
 use Rattle.rules.specs.Limits.{longest}
 use Rattle.rules.specs.Answers.{refused}
 use Rattle.rules.specs.Entries.Entry.{Entry, Promise, NothingLent}

@@ -1,9 +1,6 @@
 -- Demand 3, of the entry `run`: what it accepts, what it then answers and leaves, and that it is delivered.
-use Rattle.std.specs.Prelude.{◌≡◌, false, List, ℕ, suc, ◌≤◌, ◌<◌, length, take}
+use Rattle.std.specs.Prelude.{◌≡◌, false, List, ℕ, suc, ◌≤◌, ◌<◌, length, take, Ok}
 use Rattle.rules.specs.declared.Outcome.TheVariants as ended
-use Rattle.rules.specs.declared.LengthAnswer.{LengthAnswer}
-use Rattle.rules.specs.declared.RunAnswer.{RunAnswer}
-use Rattle.rules.specs.declared.RunAnswer.TheVariants as ran
 use Rattle.rules.specs.Limits.{tables_length, most_hops, trail_room}
 use Rattle.rules.specs.File.{Set}
 use Rattle.rules.specs.Forwarding.{fault_of, failed, up, lent_tables, packet, Run, hops, trail, run, run_under}
@@ -13,6 +10,7 @@ use Rattle.rules.specs.Entries.Run.{RunInput, RunLent, run_entry}
 use Rattle.rules.specs.Sets.{AcceptedFile}
 use Rattle.rules.specs.Demands.Form.{Front}
 use Rattle.rules.specs.Demands.Delivery.{DeliveredBy}
+use Rattle.rules.specs.Answers.{LengthAnswer, RunAnswer}
 use Rattle.rules.specs.Demands.Step.{InRange, Standing}
 
 -- run accepts exactly when the bytes are an accepted set's, source and destination are nodes, the failure is in its range and not the source, and tables
@@ -31,7 +29,7 @@ pub record RunMeets (S : Set) (i : RunInput) (d : RunLent) : Type 0 where
 pub record RunGives (S : Set) (i : RunInput) (before : RunLent) (r : RunAnswer) (after : RunLent) : Type 0 where
   pub made : Run
   pub rule : made ≡ run_under S (fault_of i.failure) i.source i.destination
-  pub answer : r ≡ ran.Ended (record { outcome = made.outcome; hops = hops made; topology = made.topology; kind = made.kind })
+  pub answer : r ≡ Ok (record { outcome = made.outcome; hops = hops made; topology = made.topology; kind = made.kind })
   pub trail : Front (trail i.source made) before.trail after.trail
   pub tables : (answer : LengthAnswer) (left : List ℕ) → Promise tables_entry i.file before.tables answer left → after.tables ≡ left
   pub steps : made ≡ run S (lent_tables S.net after.tables) (up S (fault_of i.failure)) (most_hops S.net) (packet i.source i.destination 0)
@@ -42,7 +40,7 @@ pub record AnswersDelivered (S : Set) (i : RunInput) (r : RunAnswer) (after : Ru
   pub made : Run
   pub rule : made ≡ run_under S (fault_of i.failure) i.source i.destination
   pub delivered : DeliveredBy S (fault_of i.failure) i.source i.destination made
-  pub answer : r ≡ ran.Ended (record { outcome = ended.Delivered; hops = hops made; topology = made.topology; kind = made.kind })
+  pub answer : r ≡ Ok (record { outcome = ended.Delivered; hops = hops made; topology = made.topology; kind = made.kind })
   pub written : take (suc (hops made)) after.trail ≡ trail i.source made
 
 -- so is every call that the entry accepts

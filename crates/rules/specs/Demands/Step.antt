@@ -1,17 +1,16 @@
 -- Demand 3, of the entry `step`: what it accepts, and what it then answers.
-use Rattle.std.specs.Prelude.{◌≡◌, Bool, true, false, ℕ, ◌≤◌, ◌<◌, length}
+use Rattle.std.specs.Prelude.{◌≡◌, Bool, true, false, ℕ, ◌≤◌, ◌<◌, length, Ok}
 use Rattle.rules.specs.declared.Network.{Network}
 use Rattle.rules.specs.declared.Packet.{Packet}
 use Rattle.rules.specs.declared.Failure.{Failure}
 use Rattle.rules.specs.declared.Failure.TheVariants.{Nothing, Link, Node}
-use Rattle.rules.specs.declared.StepAnswer.{StepAnswer}
-use Rattle.rules.specs.declared.StepAnswer.TheVariants as stepped
 use Rattle.rules.specs.Limits.{tables_length}
 use Rattle.rules.specs.File.{Set}
 use Rattle.rules.specs.Isolation.{neighbours, home}
 use Rattle.rules.specs.Forwarding.{fault_of, up, Tables, lent_tables, step}
 use Rattle.rules.specs.Entries.Entry.{NothingLent}
 use Rattle.rules.specs.Entries.Step.{StepInput}
+use Rattle.rules.specs.Answers.{StepAnswer}
 use Rattle.rules.specs.Sets.{FileOf}
 
 -- what is down is in its range
@@ -55,4 +54,4 @@ pub record StepMeets (S : Set) (i : StepInput) (d : NothingLent) : Type 0 where
 
 -- and then it answers what the forwarding rule makes of the packet, by the lent tables as they are
 pub record StepGives (S : Set) (i : StepInput) (before : NothingLent) (r : StepAnswer) (after : NothingLent) : Type 0 where
-  pub answer : r ≡ stepped.Taken (step S (lent_tables S.net i.tables) (up S (fault_of i.failure)) i.packet)
+  pub answer : r ≡ Ok (step S (lent_tables S.net i.tables) (up S (fault_of i.failure)) i.packet)

@@ -1,8 +1,7 @@
 -- 02's request h: "Every caller reads and then checks, and one tool forgot the check." No entry but the step accepts a set that breaks 7 or 8.
 use Rattle.std.specs.Prelude.{◌≡◌, ℕ, ◌≤◌, ◌<◌}
-use Rattle.rules.specs.declared.StepAnswer.{StepAnswer}
 use Rattle.rules.specs.File.{Set}
-use Rattle.rules.specs.Answers.{refused}
+use Rattle.rules.specs.Answers.{StepAnswer, refused}
 use Rattle.rules.specs.Entries.Entry.{Entry, Promise, NothingLent}
 use Rattle.rules.specs.Entries.Lists.{LongLists}
 use Rattle.rules.specs.Entries.Read.{read_entry}

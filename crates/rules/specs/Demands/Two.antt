@@ -1,11 +1,7 @@
 -- Demand 2. "A file or set is accepted exactly when it meets the published rules." Since 02's request h one operation takes in both.
-use Rattle.std.specs.Prelude.{◌≡◌, ◌↔◌, ◌⊎◌, true, false, List, ℕ, suc, ◌+◌, ◌*◌, ◌≤◌, ◌<◌, length, take, drop}
+use Rattle.std.specs.Prelude.{◌≡◌, ◌↔◌, ◌⊎◌, true, false, List, ℕ, suc, ◌+◌, ◌*◌, ◌≤◌, ◌<◌, length, take, drop, Ok}
 use Rattle.rules.specs.declared.Network.{Network}
-use Rattle.rules.specs.declared.Verdict.TheVariants.{Accepted}
-use Rattle.rules.specs.declared.ReadAnswer.{ReadAnswer}
-use Rattle.rules.specs.declared.ReadAnswer.TheVariants as read
-use Rattle.rules.specs.declared.LengthAnswer.{LengthAnswer}
-use Rattle.rules.specs.declared.LengthAnswer.TheVariants as long
+use Rattle.rules.specs.Verdict.{Accepted}
 use Rattle.rules.specs.Limits.{row_weights, row_head_length, weight_length, home_records, link_place, home_place, row_place, file_length, tables_length}
 use Rattle.rules.specs.File.{Set, encode}
 use Rattle.rules.specs.Isolation.{neighbours, home, row_in_force, hop_weight, usable}
@@ -18,6 +14,7 @@ use Rattle.rules.specs.Entries.Read.{read_entry}
 use Rattle.rules.specs.Entries.Write.{WriteInput, write_entry}
 use Rattle.rules.specs.Entries.Tables.{tables_entry}
 use Rattle.rules.specs.Sets.{Bytes, WithinLimits, at, MeetsRules, Published, PublishedFile, AcceptedSet, AcceptedFile}
+use Rattle.rules.specs.Answers.{ReadAnswer, LengthAnswer}
 use Rattle.rules.specs.Demands.Form.{AcceptsExactly, ThenGives, IsRead, IsLength, Front}
 
 -- ---- files
@@ -81,7 +78,7 @@ pub record ReadMeets (S : Set) (s : List ℕ) (d : Lists) : Type 0 where
 
 -- and then it answers the counts and leaves each list with the set's entries at its front
 pub record ReadGives (S : Set) (s : List ℕ) (before : Lists) (r : ReadAnswer) (after : Lists) : Type 0 where
-  pub answer : r ≡ read.Read S.net
+  pub answer : r ≡ Ok S.net
   pub a : Front S.a before.a after.a
   pub b : Front S.b before.b after.b
   pub weights : Front S.weights before.weights after.weights
@@ -113,15 +110,15 @@ pub record WriteMeets (S : Set) (i : WriteInput) (lent : List ℕ) : Type 0 wher
 
 -- and then it answers the file's length and leaves the file at the front of the room
 pub record WriteGives (S : Set) (i : WriteInput) (before : List ℕ) (r : LengthAnswer) (after : List ℕ) : Type 0 where
-  pub answer : r ≡ long.Length (file_length S.net)
+  pub answer : r ≡ Ok (file_length S.net)
   pub file : Front (encode S) before after
 
 -- "An accepted file written out again is the same bytes": what reading left in the lists, written into any room that is long enough
 abbrev pub SameBytes : Type 0
 SameBytes =
-    (s : List ℕ) → Bytes s → (before after : Lists) (h : Network) → Promise read_entry s before (read.Read h) after
+    (s : List ℕ) → Bytes s → (before after : Lists) (h : Network) → Promise read_entry s before (Ok h) after
     → (room written : List ℕ) (r : LengthAnswer) → length s ≤ length room → Promise write_entry (record { net = h; lists = after }) room r written
-    → (r ≡ long.Length (length s)) × (take (length s) written ≡ s)
+    → (r ≡ Ok (length s)) × (take (length s) written ≡ s)
 
 -- the entries of a list within a count
 abbrev pub Same : ℕ → List ℕ → List ℕ → Type 0
@@ -138,9 +135,9 @@ pub record SameLists (h : Network) (d d' : Lists) : Type 0 where
 -- "a set written out reads back as itself": by any reader whose lists are long enough
 abbrev pub ReadsBack : Type 0
 ReadsBack =
-    (h : Network) (d : Lists) (room written : List ℕ) (bytes : ℕ) → Promise write_entry (record { net = h; lists = d }) room (long.Length bytes) written
+    (h : Network) (d : Lists) (room written : List ℕ) (bytes : ℕ) → Promise write_entry (record { net = h; lists = d }) room (Ok bytes) written
     → (before after : Lists) (r : ReadAnswer) → LongLists h before → Promise read_entry (take bytes written) before r after
-    → (r ≡ read.Read h) × SameLists h after d
+    → (r ≡ Ok h) × SameLists h after d
 
 -- ---- "Every next hop lies on a path of least total weight, ties to the lower number."
 
@@ -186,7 +183,7 @@ pub record TablesMeet (S : Set) (s lent : List ℕ) : Type 0 where
 
 -- and then it answers their length, and every byte that it leaves is
 pub record TablesGive (S : Set) (s before : List ℕ) (r : LengthAnswer) (after : List ℕ) : Type 0 where
-  pub answer : r ≡ long.Length (tables_length S.net)
+  pub answer : r ≡ Ok (tables_length S.net)
   -- the next hop on a path of least total weight, ties to the lower number; "For t = u the entry is u."
   pub next : (i u t : ℕ) → i ≤ S.net.k → u < S.net.n → t < S.net.n → (u ≡ t → ⊥) → NextHopIs S i u t (at after (entry_place S.net i u t))
   pub own : (i u : ℕ) → i ≤ S.net.k → u < S.net.n → at after (entry_place S.net i u u) ≡ u

@@ -1,12 +1,11 @@
 -- The entry `build`: from a graph's file and a cap into a lent file. Refusals 1 to 6, 7 and 8 by topology, 13, 11, 9, 10, 14.
 use Rattle.std.specs.Prelude.{List, [], ◌∷◌, ℕ}
-use Rattle.rules.specs.declared.LengthAnswer.{LengthAnswer}
 use Rattle.rules.specs.Basics.{laid}
 use Rattle.rules.specs.Limits.{file_length}
 use Rattle.rules.specs.File.{Set, encode, header_of, set_of}
 use Rattle.rules.specs.Building.{built}
 use Rattle.rules.specs.Judgement.{and_then, take_in, need_graph, need_cap, need_fit, need_room}
-use Rattle.rules.specs.Answers.{length_tells}
+use Rattle.rules.specs.Answers.{LengthAnswer, length_tells}
 use Rattle.rules.specs.Entries.Entry.{Entry}
 
 -- what building is given

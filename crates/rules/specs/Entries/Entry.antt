@@ -1,7 +1,6 @@
 -- What an entry is, and what it promises.
 use Rattle.std.specs.Prelude.{◌≡◌, List, ℕ}
-use Rattle.rules.specs.declared.Verdict.{Verdict}
-use Rattle.rules.specs.declared.Verdict.TheVariants.{Accepted, Refused}
+use Rattle.rules.specs.Verdict.{Verdict, Accepted, Refused}
 use Rattle.rules.specs.Answers.{Told, tell}
 
 -- An entry is given an input and is lent something. `verdict` is the refusal by number and place, or acceptance; `tells` is its answer in 01's numbers;

@@ -1,7 +1,7 @@
 -- The five lists that `read` is lent and `write` is given.
 use Rattle.std.specs.Prelude.{List, ℕ, ◌*◌, ◌≤◌, leb, length}
 use Rattle.rules.specs.declared.Network.{Network}
-use Rattle.rules.specs.declared.Verdict.{Verdict}
+use Rattle.rules.specs.Verdict.{Verdict}
 use Rattle.rules.specs.Basics.{need}
 use Rattle.rules.specs.Limits.{home_records, row_weights}
 use Rattle.rules.specs.Judgement.{refuse}

@@ -1,10 +1,9 @@
 -- The entry `read`: takes in a file, of a set or of a graph alone, into five lent lists. Refusals 1 to 6, 7 and 8 by topology, 14.
 use Rattle.std.specs.Prelude.{List, ℕ}
-use Rattle.rules.specs.declared.ReadAnswer.{ReadAnswer}
 use Rattle.rules.specs.Basics.{laid}
 use Rattle.rules.specs.File.{Set, header_of, set_of}
 use Rattle.rules.specs.Judgement.{and_then, take_in}
-use Rattle.rules.specs.Answers.{header_values, read_tells}
+use Rattle.rules.specs.Answers.{ReadAnswer, header_values, read_tells}
 use Rattle.rules.specs.Entries.Entry.{Entry}
 use Rattle.rules.specs.Entries.Lists.{Lists, lists, need_lists}
 

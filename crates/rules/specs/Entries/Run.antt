@@ -1,14 +1,13 @@
 -- The entry `run`: from a source to a destination under a failure, with lent tables and a lent trail. Refusals 1 to 6, 7 and 8 by topology, 13, 11, 12, 14.
 use Rattle.std.specs.Prelude.{List, [], ◌∷◌, ℕ}
 use Rattle.rules.specs.declared.Failure.{Failure}
-use Rattle.rules.specs.declared.RunAnswer.{RunAnswer}
 use Rattle.rules.specs.Basics.{laid}
 use Rattle.rules.specs.Limits.{tables_length, trail_room}
 use Rattle.rules.specs.File.{header_of, set_of}
 use Rattle.rules.specs.Distance.{table_bytes}
 use Rattle.rules.specs.Forwarding.{fault_of, packet, Run, hops, trail, letter, run_under}
 use Rattle.rules.specs.Judgement.{and_then, take_set, need_packet, need_source, need_room}
-use Rattle.rules.specs.Answers.{outcome_value, run_tells}
+use Rattle.rules.specs.Answers.{RunAnswer, outcome_value, run_tells}
 use Rattle.rules.specs.Entries.Entry.{Entry}
 
 -- what a run is given

@@ -2,12 +2,11 @@
 use Rattle.std.specs.Prelude.{List, ℕ}
 use Rattle.rules.specs.declared.Packet.{Packet}
 use Rattle.rules.specs.declared.Failure.{Failure}
-use Rattle.rules.specs.declared.StepAnswer.{StepAnswer}
 use Rattle.rules.specs.Limits.{tables_length}
 use Rattle.rules.specs.File.{header_of, set_of}
 use Rattle.rules.specs.Forwarding.{fault_of, up, lent_tables, step, lookup_number}
 use Rattle.rules.specs.Judgement.{refuse, and_then, judge, need_set, need_packet, need_source, need_room}
-use Rattle.rules.specs.Answers.{step_values, step_tells}
+use Rattle.rules.specs.Answers.{StepAnswer, step_values, step_tells}
 use Rattle.rules.specs.Entries.Entry.{Entry, NothingLent}
 
 -- what a step is given

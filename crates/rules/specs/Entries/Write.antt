@@ -2,12 +2,11 @@
 -- number and place the reader would give for what it would write; [..] a list shorter than the counts need is 1"; "the writer gives 7 and 8 too" (02, h).
 use Rattle.std.specs.Prelude.{List, [], ◌∷◌, ℕ}
 use Rattle.rules.specs.declared.Network.{Network}
-use Rattle.rules.specs.declared.LengthAnswer.{LengthAnswer}
 use Rattle.rules.specs.Basics.{laid}
 use Rattle.rules.specs.Limits.{need_counts, file_length}
 use Rattle.rules.specs.File.{Set, encode}
 use Rattle.rules.specs.Judgement.{refuse, and_then, take_in, need_room}
-use Rattle.rules.specs.Answers.{length_tells}
+use Rattle.rules.specs.Answers.{LengthAnswer, length_tells}
 use Rattle.rules.specs.Entries.Entry.{Entry}
 use Rattle.rules.specs.Entries.Lists.{Lists, need_lists}
 
