@@ -9,6 +9,10 @@ use lib.Dec.{eqb, ltb}
 use lib.ListN.{length, get_or, set, replicate, length-set, length-replicate}
 use lib.Seq.{get_or-set_same, get_or-set_other}
 use borrow.Author.Tests.{eqb-true, eqb-false, eq-eqb, ne_eqb, lt-ltb}
+use Rattle.std.specs.Prelude.{Result, is_ok}
+use Rattle.rules.specs.declared.Rule.{Rule}
+use Rattle.rules.specs.Verdict.{broken}
+use Rattle.rules.proofs.Ground.Ruling.{unbroken}
 use Rattle.rules.specs.Basics.{all, lowest}
 use Rattle.rules.specs.Isolation.{word}
 use Rattle.rules.specs.Building.{highest}
@@ -44,9 +48,10 @@ spared_done nb n v k e h g = let q : v ≡ k = omega arith in sym e ∙ ap (all_
 
 -- ---- admits
 
-pub admits_at : (nb isos : List ℕ) (n i v at iso r : ℕ) → at ≡ i - 1 → iso ≡ adding (get_or isos at 0) v → r ≡ number_by nb n iso → eqb r 0 ≡ word_admits nb n (get_or isos (i - 1) 0) v
+pub admits_at : (nb isos : List ℕ) (n i v at iso : ℕ) (r : Result (Unit {0}) Rule) (t : Bool) → at ≡ i - 1 → iso ≡ adding (get_or isos at 0) v → broken r ≡ number_by nb n iso → t ≡ is_ok r
+    → t ≡ word_admits nb n (get_or isos (i - 1) 0) v
 unfolding word_admits
-admits_at nb isos n i v at iso r ea ei er = rw (er, ei, ea)
+admits_at nb isos n i v at iso r t ea ei er et = et ∙ unbroken r ∙ rw (er, ei, ea)
 
 -- ---- the words of the topologies
 

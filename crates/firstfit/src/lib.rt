@@ -10,7 +10,7 @@ ghost use Rattle.firstfit.specs.Fit.{spared_by, all_spared, word_admits, Placed}
 
 use rules::Network;
 use slices::byte;
-use topologyrules::{backbone, connected, enter, topology_number};
+use topologyrules::{backbone, connected, enter, topology_rule};
 use words::{adding, only};
 
 // ---- 9
@@ -55,7 +55,7 @@ fn admits(nb: &[u32], n: u8, isos: &[u32; Network::MOST_TOPOLOGIES], i: u8, v: u
     let at = (i - 1) as usize;
     let before = isos[at];
     let iso = adding(before, v);
-    topology_number(nb, n, iso) == 0
+    topology_rule(nb, n, iso).is_ok()
 }
 
 // Each node goes to the first topology that admits it. The count of nodes placed: fewer than all where the cap is passed.

@@ -11,7 +11,7 @@ use Rattle.rules.specs.Limits.{link_place, home_records}
 use Rattle.rules.specs.File.{header_of, end_a, end_b, home_topology, set_of}
 use Rattle.rules.specs.Isolation.{topology_number}
 use Rattle.rules.specs.Judgement.{refuse, and_then, in_turn, judge, topologies, take_in, need_set, take_set}
-use Rattle.rules.proofs.Ground.Choices.{refuse_no, refuse_ok, then_on, then_stop, turn_none, turn_more, turn_stop, turn_done, turn_agree}
+use Rattle.rules.proofs.Ground.Choices.{refuse_ok, refuse_zero, then_ok, then_no, turn_none, turn_more, turn_stop, turn_agree}
 use Rattle.rules.proofs.File.SetOfBytes.{net_held}
 use Rattle.layout.proofs.Places.{link_inside}
 use Rattle.topologyrules.specs.Entered.{entered}
@@ -31,9 +31,6 @@ pub linked_more : (s : List ℕ) (l x y : ℕ) (nb e f : List ℕ) → nb ≡ ne
 unfolding neighbour_words linked
 linked_more s l x y nb e f q ex ey p r = r ∙ rw (p, q, ex, ey, add-one)
 
-pub linked_done : (s : List ℕ) (l m : ℕ) (nb : List ℕ) → nb ≡ neighbour_words s l → l ≤ m → m ≤ l → nb ≡ neighbour_words s m
-linked_done s l m nb q h g = let e : l ≡ m = omega arith in q ∙ ap (neighbour_words s) e
-
 pub link_there : (s : List ℕ) (m l : ℕ) → Ends s m → l < m → link_place (l + 1) ≤ length s
 link_there s m l E h = link_inside s l l m E.long h refl
 
@@ -44,6 +41,8 @@ pub b_low : (s : List ℕ) (m l y : ℕ) → Ends s m → l < m → y ≡ end_b 
 b_low s m l y E h e = let q = E.b_low l h in omega arith
 
 pub ruleset ends_low = (a_low, b_low)
+
+pub ruleset linking = (linked_none, linked_more, link_there)
 
 -- ---- isolated_words
 
@@ -56,9 +55,10 @@ pub isolated_more : (s : List ℕ) (h : Network) (v home x y : ℕ) (isos e : Li
 unfolding isolated_words
 isolated_more s h v home x y isos e q eh ex ey p = p ∙ rw (q, ex, ey, eh, add-one)
 
-pub isolated_done : (s : List ℕ) (h : Network) (v count : ℕ) (isos : List ℕ) → isos ≡ isolated_words s h v → count ≡ home_records h → v ≤ count → count ≤ v
-    → isos ≡ isolated_words s h (home_records h)
-isolated_done s h v count isos q ec l g = let e : v ≡ home_records h = omega arith in q ∙ ap (isolated_words s h) e
+pub isolated_done : (s : List ℕ) (h : Network) (count : ℕ) (isos : List ℕ) → isos ≡ isolated_words s h count → count ≡ home_records h → isos ≡ isolated_words s h (home_records h)
+isolated_done s h count isos q ec = q ∙ ap (isolated_words s h) ec
+
+pub ruleset isolating = (isolated_none, isolated_more, isolated_done)
 
 module _ (s : List ℕ) (h : Network) (H : Homes s h) (v count home : ℕ) (l : v < count) (ec : count ≡ home_records h) (eh : home ≡ home_topology s h v) where
   pub home_some : 1 ≤ home
@@ -96,25 +96,20 @@ module _ (nb : List ℕ) (n : ℕ) (isos : List ℕ) where
   unfolding turns_by
   turns_none = turn_none turn
 
-  module _ (j i iso r : ℕ) (t : turns_by nb n isos j ≡ Accepted) (ei : i ≡ j + 1) (ew : iso ≡ isolated_in isos i) (er : r ≡ number_by nb n iso) where
+  module _ (j i iso r place : ℕ) (t : turns_by nb n isos j ≡ Accepted) (ei : i ≡ j + 1) (ew : iso ≡ isolated_in isos i) (er : r ≡ number_by nb n iso) where
     number_is : number_by nb n (isolated_in isos (suc j)) ≡ r
     number_is = ap (λ (x : ℕ). number_by nb n (isolated_in isos x)) (sym (ei ∙ add-one j)) ∙ ap (number_by nb n) (sym ew) ∙ sym er
 
-    pub turns_more : r ≡ 0 → turns_by nb n isos (j + 1) ≡ Accepted
+    pub turns_more : Accepted ≡ refuse r place → turns_by nb n isos (j + 1) ≡ Accepted
     unfolding turns_by
-    turns_more z = turn_more turn j t (sym (refuse_ok (number_by nb n (isolated_in isos (suc j))) (suc j) (number_is ∙ z)))
+    turns_more z = turn_more turn j t (sym (refuse_ok (number_by nb n (isolated_in isos (suc j))) (suc j) (number_is ∙ refuse_zero r place (sym z))))
 
-    pub turns_out : (k : ℕ) → (r ≡ 0 → ⊥) → j < k → Refused r i ≡ turns_by nb n isos k
+    pub turns_out : (k number q : ℕ) → place ≡ i → j < k → Refused number q ≡ refuse r place → Refused number q ≡ turns_by nb n isos k
     unfolding turns_by
-    turns_out k z l =
-        let e : i ≡ suc j = ei ∙ add-one j in
-        sym (turn_stop turn j k r i l t (ap (λ (x : ℕ). refuse x (suc j)) number_is ∙ rw e (sym (refuse_no r (suc j) z))))
+    turns_out k number q ep l z =
+        sym (turn_stop turn j k number q l t (ap (λ (x : ℕ). refuse x (suc j)) number_is ∙ ap (refuse r) (sym (ep ∙ ei ∙ add-one j)) ∙ sym z))
 
-  pub turns_done : (j k : ℕ) → turns_by nb n isos j ≡ Accepted → j ≤ k → k ≤ j → Accepted ≡ turns_by nb n isos k
-  unfolding turns_by
-  turns_done j k t l g = turn_done turn j k t l g
-
-pub ruleset turns = (turns_none, turns_more, turns_out, turns_done)
+pub ruleset turns = (turns_none, turns_more, turns_out)
 
 -- ---- by_words
 
@@ -146,6 +141,8 @@ pub turns_are : (s nb isos : List ℕ) (h : Network) (r : Verdict) → judge s �
     → r ≡ turns_by nb h.n isos h.k → r ≡ topologies (set_of s)
 turns_are s nb isos h r a eh en ei er = er ∙ rw (en, ei, eh) (held_turns s a)
 
+pub ruleset of_words = (ends_of, homes_of, few_of, some_of, turns_are)
+
 -- ---- topology_verdict
 
 pub none_to_check : (s : List ℕ) (h : Network) → h ≡ header_of s → h.k ≡ 0 → Accepted ≡ topologies (set_of s)
@@ -157,17 +154,26 @@ none_to_check s h eh z =
 
 -- ---- take_in, take_set
 
-pub judged : (s : List ℕ) (v : Verdict) → v ≡ judge s → v ≡ Accepted → judge s ≡ Accepted
-judged s v e t = sym e ∙ t
+module _ (s : List ℕ) where
+  pub judged : Accepted ≡ judge s → judge s ≡ Accepted
+  judged e = sym e
 
-pub taken_on : (s : List ℕ) (v w : Verdict) → v ≡ Accepted → v ≡ judge s → w ≡ topologies (set_of s) → w ≡ take_in s
-unfolding take_in
-taken_on s v w t e d = then_on v w (judge s) (topologies (set_of s)) t e d
+  pub taken_on : (v : Verdict) → Accepted ≡ judge s → v ≡ topologies (set_of s) → v ≡ take_in s
+  unfolding take_in
+  taken_on v e d = d ∙ sym (then_ok (judge s) (topologies (set_of s)) (sym e))
 
-pub taken_stop : (s : List ℕ) (v : Verdict) (number place : ℕ) → v ≡ Refused number place → v ≡ judge s → v ≡ take_in s
-unfolding take_in
-taken_stop s v number place t e = then_stop v (judge s) (topologies (set_of s)) number place t e
+  pub taken_stop : (number place : ℕ) → Refused number place ≡ judge s → Refused number place ≡ take_in s
+  unfolding take_in
+  taken_stop number place e = sym (then_no (judge s) (topologies (set_of s)) number place (sym e))
 
-pub set_is : (s : List ℕ) (h : Network) (v w r : Verdict) → v ≡ take_in s → h ≡ header_of s → w ≡ need_set h → r ≡ and_then v w → r ≡ take_set s
-unfolding take_set
-set_is s h v w r ev eh ew er = er ∙ rw (ev, ew, eh)
+  pub set_on : (h : Network) (v : Verdict) → Accepted ≡ take_in s → h ≡ header_of s → v ≡ need_set h → v ≡ take_set s
+  unfolding take_set
+  set_on h v e eh d = d ∙ ap need_set eh ∙ sym (then_ok (take_in s) (need_set (header_of s)) (sym e))
+
+  pub set_stop : (number place : ℕ) → Refused number place ≡ take_in s → Refused number place ≡ take_set s
+  unfolding take_set
+  set_stop number place e = sym (then_no (take_in s) (need_set (header_of s)) number place (sym e))
+
+pub ruleset taking = (judged, taken_on, taken_stop)
+
+pub ruleset taking_set = (set_on, set_stop)

@@ -17,7 +17,7 @@ use Rattle.rules.specs.Basics.{need, all}
 use Rattle.rules.specs.Limits.{need_counts, home_records, link_place, home_place, row_place, file_length}
 use Rattle.rules.specs.File.{header_of, end_a, end_b, link_weight, home_node, home_topology, row_topology, row_weight}
 use Rattle.rules.specs.Judgement.{refuse, in_turn, need_mark, header_number, after, rises, link_number, home_number, row_weight_fits, row_number, records, judge}
-use Rattle.rules.proofs.Ground.Choices.{and_of, and_left, and_right, or_left, or_right, or_cases, clash, false_of, same_test, need_yes, need_no, need_ok, refuse_ok, then_ok, then_no, turn_none, turn_more, turn_stop}
+use Rattle.rules.proofs.Ground.Choices.{and_of, and_left, and_right, or_left, or_right, or_cases, clash, false_of, same_test, need_yes, need_no, need_ok, refuse_ok, refuse_zero, then_ok, then_no, turn_none, turn_more, turn_stop}
 use Rattle.rules.proofs.Ground.Numbers.{all_at}
 use Rattle.rules.proofs.File.Records.{header_meets}
 use Rattle.layout.specs.declared.LinkFields.{LinkFields}
@@ -36,14 +36,14 @@ need_under false number rest rest' h = refl
 
 -- ---- records in turn, by number and place
 
-module _ (number_at place_of : ℕ → ℕ) (i number place : ℕ) (h : in_turn (judged number_at place_of) i ≡ Accepted) (e : number ≡ number_at i) (p : place ≡ place_of i) where
+module _ (number_at place_of : ℕ → ℕ) (i number place : ℕ) (h : in_turn (judged number_at place_of) i ≡ Accepted) (e : number ≡ number_at i) where
   pub turn_taken : Accepted ≡ refuse number place → in_turn (judged number_at place_of) (i + 1) ≡ Accepted
   unfolding judged
-  turn_taken t = turn_more (judged number_at place_of) i h (rw (← e, ← p) (sym t))
+  turn_taken t = turn_more (judged number_at place_of) i h (sym (refuse_ok (number_at i) (place_of i) (sym e ∙ refuse_zero number place (sym t))))
 
-  pub turn_refused : (m c q : ℕ) → i < m → Refused c q ≡ refuse number place → Refused c q ≡ in_turn (judged number_at place_of) m
+  pub turn_refused : (m c q : ℕ) → place ≡ place_of i → i < m → Refused c q ≡ refuse number place → Refused c q ≡ in_turn (judged number_at place_of) m
   unfolding judged
-  turn_refused m c q l t = sym (turn_stop (judged number_at place_of) i m c q l h (rw (← e, ← p) (sym t)))
+  turn_refused m c q p l t = sym (turn_stop (judged number_at place_of) i m c q l h (rw (← e, ← p) (sym t)))
 
 -- ---- the header
 
@@ -135,17 +135,17 @@ pub links_none : (s : List ℕ) (h : Network) → LinksTaken s h 0 0
 links_none s h = record { taken = turn_none _; ranked = ranked_none s }
 
 module _ (s : List ℕ) (h : Network) (l last rank number place : ℕ) (r : LinkFields) (k : LinksTaken s h l last) (f : LinkAt s l r)
-    (e : number ≡ link_rule h r.x r.y last rank r.a r.b r.weight) (p : place ≡ link_place l) (er : rank ≡ 256 * r.a + r.b) (low : r.b < 256) where
+    (e : number ≡ link_rule h r.x r.y last rank r.a r.b r.weight) (er : rank ≡ 256 * r.a + r.b) (low : r.b < 256) where
   pub links_more : Accepted ≡ refuse number place → LinksTaken s h (l + 1) rank
   links_more t =
       record {
-        taken = turn_taken (link_number s h) link_place l number place k.taken (link_number_is s h l last rank number r f e er low k.ranked) p t;
+        taken = turn_taken (link_number s h) link_place l number place k.taken (link_number_is s h l last rank number r f e er low k.ranked) t;
         ranked = ranked_more s l rank r f er low;
       }
 
-  pub links_stop : (m c q : ℕ) → l < m → Refused c q ≡ refuse number place → Refused c q ≡ in_turn (judged (link_number s h) link_place) m
-  links_stop m c q g t =
-      turn_refused (link_number s h) link_place l number place k.taken (link_number_is s h l last rank number r f e er low k.ranked) p m c q g t
+  pub links_stop : (m c q : ℕ) → place ≡ link_place l → l < m → Refused c q ≡ refuse number place → Refused c q ≡ in_turn (judged (link_number s h) link_place) m
+  links_stop m c q p g t =
+      turn_refused (link_number s h) link_place l number place k.taken (link_number_is s h l last rank number r f e er low k.ranked) m c q p g t
 
 pub links_done : (s : List ℕ) (h : Network) (m last : ℕ) → LinksTaken s h m last → Accepted ≡ in_turn (judged (link_number s h) link_place) m
 links_done s h m last k = sym k.taken

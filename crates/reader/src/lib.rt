@@ -8,33 +8,17 @@ ghost use Rattle.std.specs.Prelude.{◌≡◌};
 ghost use Rattle.rules.specs.Entries.Entry.{Promise};
 ghost use Rattle.rules.specs.Entries.Lists.{lists};
 ghost use Rattle.rules.specs.Entries.Read.{read_entry};
-ghost use Rattle.reader.specs.Reading.{read_verdict};
 
 use intake::take_in;
 use layout::header;
 use listing::lists_into;
-use needs::{need_lists, then};
-use rules::{Network, ReadAnswer, Verdict};
-
-// The file taken in, and then the lists: 14 where one is too short.
-fn verdict_on(
-    file: &[u8],
-    net: Network,
-    a: usize,
-    b: usize,
-    weights: usize,
-    homes: usize,
-    rows: usize,
-) -> Verdict
-    ensures { result ≡ read_verdict file.now net a b weights homes rows }
-{
-    let room = need_lists(14, net, a, b, weights, homes, rows);
-    then(take_in(file), room)
-}
+use needs::{Lengths, need_lists};
+use rules::{Network, Refusal, Rule};
 
 // Reads a file into the lent lists: link ends a and b, link weights, homes, backup weights row by row.
 // Rules out: the lists filled, and refusal 14 all the same `refused_after_writing`; 14 for a set that breaks 7, which is told first
 // `fourteen_before_seven`; also `short_list_is_one`, `recordrules/end_n`, `topologyrules/one_restricted_link_is_enough`.
+#[tactic(auto, using(rules::proofs::Entries::Answering::promising, rules::proofs::Ground::Ruling::asking, crate::proofs::Promised::reading), unfolding(rules::specs::Entries::Read::read_entry, rules::specs::Answers::tells))]
 pub fn read(
     file: &[u8],
     a: &mut [u8],
@@ -42,24 +26,19 @@ pub fn read(
     weights: &mut [u16],
     homes: &mut [u8],
     rows: &mut [u16],
-) -> ReadAnswer
+) -> Result<Network, Refusal>
     ensures { Promise read_entry file.now (lists a.old b.old weights.old homes.old rows.old) result (lists a.new b.new weights.new homes.new rows.new) }
 {
     let net = header(file);
-    let v = verdict_on(
-        file,
-        net,
-        a.len(),
-        b.len(),
-        weights.len(),
-        homes.len(),
-        rows.len(),
-    );
-    match v {
-        Verdict::Accepted => {
-            lists_into(file, net, a, b, weights, homes, rows);
-            ReadAnswer::Read(net)
-        }
-        Verdict::Refused { number, place } => ReadAnswer::Refused { number, place },
-    }
+    let lent = Lengths {
+        a: a.len(),
+        b: b.len(),
+        weights: weights.len(),
+        homes: homes.len(),
+        rows: rows.len(),
+    };
+    take_in(file)?;
+    need_lists(Rule::Room, net, lent)?;
+    lists_into(file, net, a, b, weights, homes, rows);
+    Ok(net)
 }

@@ -10,6 +10,9 @@ use lib.ListN.{get_or, set}
 use borrow.Author.Tests.{eqb-true, eq-eqb, ne_eqb, ltb-true, lt-ltb, not-true}
 use Rattle.rules.specs.Basics.{need, all}
 use Rattle.rules.specs.Sets.{Walk}
+use Rattle.rules.specs.declared.Rule.{Rule}
+use Rattle.rules.specs.Verdict.{number_of}
+use Rattle.rules.proofs.Ground.Ruling.{broken_first, broken_then}
 use Rattle.rules.proofs.Ground.Choices.{and_of, and_left, and_right, or_left, or_right, or_cases, clash, false_of}
 use Rattle.rules.proofs.Ground.Numbers.{all_at, all_of, count_lt}
 use Rattle.words.specs.Word.{has, only, both, either, minus, adding, removing, firsts, lowest_in}
@@ -318,22 +321,19 @@ serve_done nb iso bb n left S z = sym (all_of (served_by nb iso bb) n (λ v l. e
     each v l false i = rw i
     each v l true i = rw i (S.enough v l i (rw z (has_none v)))
 
--- ---- backbone, topology_number
+-- ---- backbone, topology_rule
 pub backbone_at : (n iso f r : ℕ) → f ≡ firsts n → r ≡ minus f iso → r ≡ backbone_word n iso
 unfolding backbone_word
 backbone_at n iso f r ef er = er ∙ rw ef
 
-pub number_seven : (nb : List ℕ) (n iso bb : ℕ) (c : Bool) → bb ≡ backbone_word n iso → c ≡ connected_by nb bb → c ≡ false → 7 ≡ number_by nb n iso
-unfolding number_by need
-number_seven nb n iso bb c eb ec p = rw (← eb, ← ec, p)
+module _ (nb : List ℕ) (n iso bb : ℕ) (c : Bool) (eb : bb ≡ backbone_word n iso) (ec : c ≡ connected_by nb bb) where
+  pub rule_first : (r : Rule) → number_of r ≡ need c 7 0 → number_of r ≡ number_by nb n iso
+  unfolding number_by
+  rule_first r e = broken_first r c 7 (need (all_served nb iso bb n) 8 0) e ∙ rw (ec, eb)
 
-pub number_eight : (nb : List ℕ) (n iso bb : ℕ) (c e : Bool) → bb ≡ backbone_word n iso → c ≡ connected_by nb bb → c ≡ true → e ≡ all_served nb iso bb n → e ≡ false → 8 ≡ number_by nb n iso
-unfolding number_by need
-number_eight nb n iso bb c e eb ec p ee q = rw (← eb, ← ec, p, ← ee, q)
-
-pub number_none : (nb : List ℕ) (n iso bb : ℕ) (c e : Bool) → bb ≡ backbone_word n iso → c ≡ connected_by nb bb → c ≡ true → e ≡ all_served nb iso bb n → e ≡ true → 0 ≡ number_by nb n iso
-unfolding number_by need
-number_none nb n iso bb c e eb ec p ee q = rw (← eb, ← ec, p, ← ee, q)
+  pub rule_last : (e : Bool) (number : ℕ) → 0 ≡ need c 7 0 → e ≡ all_served nb iso bb n → number ≡ need e 8 0 → number ≡ number_by nb n iso
+  unfolding number_by
+  rule_last e number z ee d = d ∙ broken_then c 6 (need e 8 0) (need e 8 0) z refl ∙ rw (ee, ec, eb)
 
 -- ---- enter
 pub entered_at : (nb : List ℕ) (x y w : ℕ) → w ≡ adding (get_or nb x 0) y → set nb x w ≡ entered nb x y

@@ -1,17 +1,18 @@
 // The rules of a topology, over words. Each node's neighbours, and a topology's isolated nodes, are a word; the backbone is
 // connected where a word that grows from its lowest node covers it, and an isolated node is served where its neighbour word,
 // masked by the backbone word, has two ones or more. Each function promises one equation with the definition of its name in
-// specs/: `topology_number` is 0, or the number of the rule that is broken, 7 before 8. That this is 01's number of a topology
+// specs/: `topology_rule` says which rule is broken, 7 before 8, if one is. That its number is 01's number of a topology
 // is shown in proofs/.
 #![tactic(auto)]
 
 ghost use Rattle.std.specs.Prelude.{◌≡◌, true, ◌<◌, ◌≤◌, eqb, leb, get_or};
 ghost use Rattle.std.specs.Int.Count.{ones};
+ghost use Rattle.rules.specs.Verdict.{broken};
 ghost use Rattle.words.specs.Word.{has, both};
 ghost use Rattle.topologyrules.specs.Entered.{entered};
 ghost use Rattle.topologyrules.specs.Topology.{backbone_word, reached_word, connected_by, all_served, number_by};
 
-use rules::Network;
+use rules::{Network, Rule, need};
 use slices::word;
 use words::{adding, both, either, firsts, lowest, minus, only, removing, size};
 
@@ -83,23 +84,17 @@ fn all_served(nb: &[u32], iso: u32, bb: u32, n: u8) -> bool
     true
 }
 
-// 0, or the number of the rule that a topology of n nodes with these isolated nodes breaks: 7 before 8.
-// Rules out: 0 where an isolated node has only one restricted link `one_restricted_link_is_enough`, or the last has none
+// The rule that a topology of n nodes with these isolated nodes breaks, if one: 7 before 8.
+// Rules out: none where an isolated node has only one restricted link `one_restricted_link_is_enough`, or the last has none
 // `last_isolated_node_not_asked`; links between isolated nodes counted as restricted `isolated_neighbours_counted`.
-pub fn topology_number(nb: &[u32], n: u8, iso: u32) -> u8
+#[tactic(auto, using(crate::proofs::Laws::rule_first, crate::proofs::Laws::rule_last))]
+pub fn topology_rule(nb: &[u32], n: u8, iso: u32) -> Result<(), Rule>
     requires { (1 ≤ n) × (n ≤ 32) }
-    ensures { result ≡ number_by nb.now n iso }
+    ensures { broken result ≡ number_by nb.now n iso }
 {
     let bb = backbone(n, iso);
-    let whole = connected(nb, bb);
-    if whole {
-        let enough = all_served(nb, iso, bb, n);
-        if enough {
-            return 0;
-        }
-        return 8;
-    }
-    7
+    need(connected(nb, bb), Rule::Backbone)?;
+    need(all_served(nb, iso, bb, n), Rule::TwoLinks)
 }
 
 // ---- a node in a word

@@ -11,7 +11,7 @@ use Rattle.rules.specs.declared.Step.{Step}
 use Rattle.rules.specs.Basics.{laid}
 use Rattle.rules.specs.File.{Set}
 use Rattle.rules.specs.Forwarding.{Run, hops}
-use Rattle.rules.specs.Answers.{ReadAnswer, LengthAnswer, StepAnswer, RunAnswer, accepted, tell, header_values, read_tells, length_tells, step_values, step_tells, journey_values, run_tells, tells}
+use Rattle.rules.specs.Answers.{ReadAnswer, LengthAnswer, StepAnswer, RunAnswer, accepted, refused, tell, header_values, read_tells, length_tells, step_values, step_tells, journey_values, run_tells, tells}
 use Rattle.rules.specs.Entries.Entry.{Entry, on_accept, Promise}
 use Rattle.rules.specs.Entries.Run.{run_values}
 use Rattle.rules.specs.Demands.Form.{AcceptsExactly, IsRead, IsLength, IsTaken, IsEnded, Front}
@@ -38,6 +38,25 @@ module _ {Input Lent Answer : Type 0} (E : Entry Input Lent Answer) (i : Input) 
   pub left : E.verdict i before ≡ Accepted → after ≡ E.leaves i before
   unfolding on_accept
   left e = P.lent ∙ rw e
+
+-- what a promise asks of a call that is refused, and of one that is accepted: its answer, and what was lent
+pub tell_refused : (v : Verdict) (given : List ℕ) (number place : ℕ) → Refused number place ≡ v → refused number place ≡ tell v given
+unfolding tell
+tell_refused v given number place e = rw (← e)
+
+pub tell_accepted : (v : Verdict) (given values : List ℕ) → Accepted ≡ v → values ≡ given → accepted values ≡ tell v given
+unfolding tell
+tell_accepted v given values e d = rw (← e, d)
+
+pub lent_refused : {A : Type 0} (v : Verdict) (new old : A) (number place : ℕ) → Refused number place ≡ v → old ≡ on_accept v new old
+unfolding on_accept
+lent_refused v new old number place e = rw (← e)
+
+pub lent_accepted : {A : Type 0} (v : Verdict) (new old after : A) → Accepted ≡ v → after ≡ new → after ≡ on_accept v new old
+unfolding on_accept
+lent_accepted v new old after e d = rw (← e) d
+
+pub ruleset promising = (tell_refused, tell_accepted, lent_refused, lent_accepted)
 
 -- the first statement of an entry, from what its verdict asks
 pub accepts : {Input Lent Answer : Type 0} (E : Entry Input Lent Answer) (Yes : Answer → Type 0) (Fair : Input → Type 0) (Meets : Set → Input → Lent → Type 0)

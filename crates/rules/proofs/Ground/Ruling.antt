@@ -1,11 +1,12 @@
 -- Rules by their numbers: a number of 01's table has one rule, and what an answer tells has one answer.
-use Rattle.std.specs.Prelude.{if◌then◌else◌, Result, Ok, Err}
+use Rattle.std.specs.Prelude.{if◌then◌else◌, Result, Ok, Err, is_ok}
 use mathlib.Core.Path.{◌≡◌, refl, sym, ap, ◌∙◌}
 use mathlib.Core.Bool.{Bool, true, false}
 use mathlib.Core.List.{List}
 use Prim.Native.Nat.{ℕ, zero, suc, ◌≤◌}
 use native.Mathlib.Omega.{arith}
 use lib.Dec.{eqb}
+use borrow.Author.Tests.{ne_eqb}
 use Rattle.rules.specs.declared.Rule.{Rule}
 use Rattle.rules.specs.declared.Rule.TheVariants as rule
 use Rattle.rules.specs.declared.Refusal.{Refusal}
@@ -128,6 +129,11 @@ broken_then_by true r rest result e f = f
 broken_then_by false r rest result e f = absurd (number_some r (sym e))
 
 pub ruleset needing = (broken_first, broken_then)
+
+-- nothing is broken exactly where the number is 0
+pub unbroken : (v : Result (Unit {0}) Rule) → is_ok v ≡ eqb (broken v) 0
+unbroken (Ok x) = refl
+unbroken (Err r) = sym (ne_eqb (number_of r) 0 (number_some r))
 
 -- tests in order with a rest to come: the rest decides exactly where each test before it holds
 pub record InOrder (g : ℕ → ℕ) : Type 0 where

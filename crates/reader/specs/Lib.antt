@@ -1,2 +1,0 @@
--- Reading in the shape in which the code runs.
-pub mod Reading
