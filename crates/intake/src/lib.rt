@@ -15,7 +15,7 @@ use judgement::judge;
 use layout::{header, home_topology, link_fields};
 use needs::{need_set, then};
 use rules::{Network, Verdict};
-use slices::word;
+use slices::entry;
 use topologyrules::{enter, topology_number};
 
 // ---- words from a file's bytes
@@ -63,7 +63,7 @@ fn isolated_in(isos: &[u32], i: u8) -> u32
     if i == 0 {
         return 0;
     }
-    word(isos, (i - 1) as usize)
+    entry(isos, (i - 1) as usize)
 }
 
 // The topologies in turn, by the neighbour words and the words of isolated nodes.

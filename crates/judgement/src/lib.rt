@@ -13,7 +13,7 @@ use layout::{
     end_a, end_b, header, home_place, home_topology, link_fields, link_place, row_place, row_weight,
 };
 use rules::{Network, Verdict};
-use slices::byte;
+use slices::entry;
 
 // ---- the header
 
@@ -24,7 +24,7 @@ fn header_number(file: &[u8], net: Network) -> u8
 {
     let long = file.len();
     let rest = recordrules::counts(net, recordrules::length(long, net.file_length()));
-    recordrules::header(long, byte(file, 0), byte(file, 1), rest)
+    recordrules::header(long, entry(file, 0), entry(file, 1), rest)
 }
 
 // ---- links
@@ -73,9 +73,9 @@ fn homes(file: &[u8], net: Network, count: usize) -> Verdict
         let number = recordrules::home(
             net,
             v,
-            byte(file, place),
-            byte(file, place + 1),
-            byte(file, place + 2),
+            entry(file, place),
+            entry(file, place + 1),
+            entry(file, place + 2),
             home_topology(file, net, v),
         );
         if number != 0 {
@@ -120,9 +120,9 @@ fn row_number(file: &[u8], net: Network, j: usize, place: usize) -> u8
 {
     let head = recordrules::row(
         j + 1,
-        byte(file, place),
-        byte(file, place + 1),
-        byte(file, place + 2),
+        entry(file, place),
+        entry(file, place + 1),
+        entry(file, place + 2),
     );
     if head != 0 {
         return head;

@@ -24,8 +24,8 @@ fn link(file: &mut [u8], a: &[u8], b: &[u8], weights: &[u16], l: usize)
     requires { l < 65536 }
     ensures { file.new ≡ put file.old (link_place l) (link_of a.now b.now weights.now l) }
 {
-    let x = slices::byte(a, l);
-    let y = slices::byte(b, l);
+    let x = entry(a, l);
+    let y = entry(b, l);
     let w = entry(weights, l);
     record::link(file, link_place(l), x, y, w);
 }

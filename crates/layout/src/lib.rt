@@ -11,7 +11,7 @@ ghost use Rattle.rules.specs.File.{header_of, end_a, end_b, link_weight, home_to
 ghost use Rattle.layout.specs.Fields.{LinkAt};
 
 use rules::Network;
-use slices::{byte, two, two_within, within};
+use slices::{entry, two, two_within, within};
 
 // A link's record: the two bytes of its mark, its ends, its weight in topology 0.
 #[derive(Clone, Copy)]
@@ -57,7 +57,7 @@ pub fn row_place(net: Network, j: usize) -> usize
 pub fn header(file: &[u8]) -> Network
     ensures { result ≡ header_of file.now }
 {
-    Network::header(byte(file, 2), two(file, 3), byte(file, 5), two(file, 6))
+    Network::header(entry(file, 2), two(file, 3), entry(file, 5), two(file, 6))
 }
 
 // ---- fields: after its mark's two bytes a link has a, b and a weight of two bytes, a home its node and topology
@@ -68,7 +68,7 @@ pub fn end_a(file: &[u8], l: usize) -> u8
     requires { l < 16777216 }
     ensures { result ≡ end_a file.now l }
 {
-    byte(file, link_place(l) + 2)
+    entry(file, link_place(l) + 2)
 }
 
 // Rules out: the other end; the first byte of the weight.
@@ -76,7 +76,7 @@ pub fn end_b(file: &[u8], l: usize) -> u8
     requires { l < 16777216 }
     ensures { result ≡ end_b file.now l }
 {
-    byte(file, link_place(l) + 3)
+    entry(file, link_place(l) + 3)
 }
 
 // Link l's weight in topology 0.
@@ -111,7 +111,7 @@ pub fn home_topology(file: &[u8], net: Network, v: usize) -> u8
     requires { v < 16777216 }
     ensures { result ≡ home_topology file.now net v }
 {
-    byte(file, home_place(net, v) + 3)
+    entry(file, home_place(net, v) + 3)
 }
 
 // Weight x of the row of topology j + 1.

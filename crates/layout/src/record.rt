@@ -85,7 +85,7 @@ pub fn homes(file: &mut [u8], net: Network, homes: &[u8], count: usize)
 {
     let mut v = 0;
     while v < count {
-        let topology = slices::byte(homes, v);
+        let topology = slices::entry(homes, v);
         home(file, home_place(net, v), v as u8, topology);
         v += 1;
     }

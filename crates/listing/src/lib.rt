@@ -12,7 +12,7 @@ ghost use Rattle.listing.specs.Fields.{byte_at, two_at, row_of, lists_of};
 
 use layout::{home_place, row_place};
 use rules::Network;
-use slices::{byte, two};
+use slices::{entry, two};
 
 // ---- one list
 
@@ -25,7 +25,7 @@ pub fn bytes_into(file: &[u8], from: usize, stride: usize, count: usize, out: &m
     let mut i = 0;
     let mut at = from;
     while i < count {
-        out[i] = byte(file, at);
+        out[i] = entry(file, at);
         at += stride;
         i += 1;
     }

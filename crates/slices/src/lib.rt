@@ -8,12 +8,37 @@ pub mod store; // store.rt: bytes, numbers of two bytes, and another slice at th
 ghost use Rattle.std.specs.Prelude.{◌≡◌, ◌+◌, ◌<◌, length, get_or};
 ghost use Rattle.rules.specs.File.{two};
 
-// The byte at a place, and 0 past the end.
-// Rules out: the byte before; anything but 0 past the end.
-pub fn byte(bytes: &[u8], at: usize) -> u8
-    ensures { result ≡ get_or bytes.now at 0 }
+// A number of 8, 16 or 32 bits: what a list holds. Its default is 0.
+pub trait Number: Copy + Default {
+    ghost nought: { Self };
+
+    ghost default_is_nought: { (x : Self) → Self.is_default x → x ≡ nought };
+}
+
+impl Number for u8 {
+    ghost nought = { 0 };
+
+    ghost default_is_nought = { λ x e. e };
+}
+
+impl Number for u16 {
+    ghost nought = { 0 };
+
+    ghost default_is_nought = { λ x e. e };
+}
+
+impl Number for u32 {
+    ghost nought = { 0 };
+
+    ghost default_is_nought = { λ x e. e };
+}
+
+// Entry i of a list of numbers, and 0 past its end.
+// Rules out: the first entry whatever i is `first_entry_for_any`; anything but 0 past the end.
+pub fn entry<T: Number>(list: &[T], i: usize) -> T
+    ensures { result ≡ get_or list.now i T.nought }
 {
-    if at < bytes.len() { bytes[at] } else { 0 }
+    list.get(i).copied().unwrap_or_default()
 }
 
 // The byte at a place before the end.
@@ -45,21 +70,5 @@ pub fn two(bytes: &[u8], at: usize) -> u16
     if at + 1 < bytes.len() {
         return two_within(bytes, at);
     }
-    256 * (byte(bytes, at) as u16)
-}
-
-// Entry i of a list of numbers of 16 bits, and 0 past its end.
-// Rules out: the entry after; anything but 0 past the end.
-pub fn entry(list: &[u16], i: usize) -> u16
-    ensures { result ≡ get_or list.now i 0 }
-{
-    if i < list.len() { list[i] } else { 0 }
-}
-
-// Entry i of a list of words, and 0 past its end.
-// Rules out: the entry after; anything but 0 past the end of the list.
-pub fn word(list: &[u32], i: usize) -> u32
-    ensures { result ≡ get_or list.now i 0 }
-{
-    if i < list.len() { list[i] } else { 0 }
+    256 * (entry(bytes, at) as u16)
 }
