@@ -11,7 +11,7 @@ ghost use Rattle.rules.specs.File.{header_of, end_a, end_b, link_weight, home_to
 ghost use Rattle.layout.specs.Fields.{LinkAt};
 
 use rules::Network;
-use slices::{entry, two, two_within, within};
+use slices::{entry, two, two_within};
 
 // A link's record: the two bytes of its mark, its ends, its weight in topology 0.
 #[derive(Clone, Copy)]
@@ -90,6 +90,7 @@ pub fn link_weight(file: &[u8], l: usize) -> u16
 
 // All of link l's record, where the file reaches that far.
 // Rules out: the ends exchanged `ends_exchanged`; the weight of the link after.
+#[tactic(auto, unfolding(rules::specs::Limits::link_place))]
 pub fn link_fields(file: &[u8], l: usize) -> LinkFields
     requires l_bound { l < 16777216 }
     requires l_in_bounds { link_place (l + 1) ≤ length file.now }
@@ -97,10 +98,10 @@ pub fn link_fields(file: &[u8], l: usize) -> LinkFields
 {
     let at = link_place(l);
     LinkFields {
-        x: within(file, at),
-        y: within(file, at + 1),
-        a: within(file, at + 2),
-        b: within(file, at + 3),
+        x: file[at],
+        y: file[at + 1],
+        a: file[at + 2],
+        b: file[at + 3],
         weight: two_within(file, at + 4),
     }
 }

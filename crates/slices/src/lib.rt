@@ -1,5 +1,5 @@
 // Numbers at a place in a slice, read and stored at any place. A read past the end gives 0, and a store past the end alters nothing,
-// so no caller has to check a place. Where a place is known to be before the end, `within` and its like read and store without a test.
+// so no caller has to check a place. Where a place is known to be before the end, `two_within` and its like read and store without a test.
 // Each function promises the entry, or the whole slice after the store.
 #![tactic(auto)]
 
@@ -41,24 +41,13 @@ pub fn entry<T: Number>(list: &[T], i: usize) -> T
     list.get(i).copied().unwrap_or_default()
 }
 
-// The byte at a place before the end.
-// Rules out: the byte before; 0 in its place.
-pub fn within(bytes: &[u8], at: usize) -> u8
-    requires { at < length bytes.now }
-    ensures { result ≡ get_or bytes.now at 0 }
-{
-    bytes[at]
-}
-
 // The two bytes at a place as one number, the first the higher, where both are before the end.
 // Rules out: the lower byte first; the two bytes one place later.
 pub fn two_within(bytes: &[u8], at: usize) -> u16
     requires { at + 1 < length bytes.now }
     ensures { result ≡ two bytes.now at }
 {
-    let high = within(bytes, at) as u16;
-    let low = within(bytes, at + 1) as u16;
-    256 * high + low
+    u16::from_be_bytes([bytes[at], bytes[at + 1]])
 }
 
 // The same at any place. One test does for both bytes where the slice reaches that far.
@@ -68,7 +57,8 @@ pub fn two(bytes: &[u8], at: usize) -> u16
     ensures { result ≡ two bytes.now at }
 {
     if at + 1 < bytes.len() {
-        return two_within(bytes, at);
+        two_within(bytes, at)
+    } else {
+        u16::from_be_bytes([entry(bytes, at), 0])
     }
-    256 * (entry(bytes, at) as u16)
 }
