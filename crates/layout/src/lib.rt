@@ -23,6 +23,16 @@ pub struct LinkFields {
     pub weight: u16,
 }
 
+// The lists that a file is laid from: the links' ends and weights, the nodes' homes, and the weights of the rows one after the other.
+#[derive(Clone, Copy)]
+pub struct Lists<'a> {
+    pub a: &'a [u8],
+    pub b: &'a [u8],
+    pub weights: &'a [u16],
+    pub homes: &'a [u8],
+    pub rows: &'a [u16],
+}
+
 // ---- places
 
 // Where link l's record starts.
