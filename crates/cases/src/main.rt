@@ -40,7 +40,7 @@ use std::io;
 use std::io::{Read, Write};
 use std::rt::Files;
 use wording::asked::own_words;
-use wording::{NONE, byte, change, least, part, word};
+use wording::{NONE, change, least, part, word};
 
 // ---- one case
 
@@ -97,7 +97,7 @@ fn line<R: Files, W: Write>(
     colon: usize,
     end: usize,
 ) -> io::Result<()> {
-    match byte(list, start) {
+    match wording::entry(list, start) {
         0 | b'\n' | b'#' => Ok(()),
         _ => {
             show::text(out, part(list, start, least(colon, end)))?;
@@ -112,7 +112,7 @@ fn each_line<R: Files, W: Write>(files: &R, out: &mut W, list: &[u8]) -> io::Res
     let mut colon = long;
     let mut i = 0;
     while i < long {
-        match byte(list, i) {
+        match wording::entry(list, i) {
             b'\n' => {
                 line(files, out, list, start, colon, i)?;
                 start = i + 1;

@@ -2,7 +2,7 @@
 ghost use Rattle.std.specs.Prelude.{◌≡◌};
 ghost use Rattle.console.specs.Numbers.{more, number_by, number_in};
 
-use slices::byte;
+use slices::entry;
 
 #[derive(Clone, Copy)]
 pub enum Number {
@@ -56,7 +56,7 @@ pub fn number_in(text: &[u8]) -> Number
     let mut value: u16 = 0;
     let mut i: usize = 0;
     while i < long {
-        value = more(value, byte(text, i));
+        value = more(value, entry(text, i));
         i += 1;
     }
     given(value)

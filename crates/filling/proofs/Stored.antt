@@ -62,10 +62,10 @@ weight_b s homes i l b x eb ex e = rw (← eb, ← ex, eq-eqb x i e) (none (eqb 
     none true = refl
     none false = refl
 
-pub weight_normal : (s homes : List ℕ) (i l a b x y w : ℕ) → a ≡ end_a s l → x ≡ get_or homes a 0 → (x ≡ i → ⊥) → b ≡ end_b s l → y ≡ get_or homes b 0 → (y ≡ i → ⊥) → w ≡ link_weight s l
+pub weight_normal : (s homes : List ℕ) (i l a b w : ℕ) → a ≡ end_a s l → b ≡ end_b s l → (get_or homes a 0 ≡ i → ⊥) → (get_or homes b 0 ≡ i → ⊥) → w ≡ link_weight s l
     → w ≡ weight_in s homes i l
 unfolding weight_in class_by on_normal
-weight_normal s homes i l a b x y w ea ex ne eb ey nf ew = ew ∙ rw (← ea, ← ex, ne_eqb x i ne, ← eb, ← ey, ne_eqb y i nf)
+weight_normal s homes i l a b w ea eb ne nf ew = ew ∙ rw (← ea, ne_eqb (get_or homes a 0) i ne, ← eb, ne_eqb (get_or homes b 0) i nf)
 
 pub weight_inside : (s homes d e : List ℕ) (base i x m l : ℕ) → Storing d e base (filled_bytes s homes i) x m → base + 2 * m ≤ length d → x < m → l ≡ x → base + 2 * l + 1 < length e
 weight_inside s homes d e base i x m l S h g q = let k = S.long in omega arith

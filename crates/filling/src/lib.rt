@@ -14,19 +14,15 @@ ghost use Rattle.filling.specs.Filled.{LinksIn, link_copy, weight_in, filled_byt
 use layout::{link_fields, record, row_place};
 use rules::Network;
 use slices::store::number_within;
-use slices::within;
 
 // The links, as in the graph.
 fn put_links(graph: &[u8], file: &mut [u8], m: u16)
     requires { (link_place m ≤ length graph.now) × (link_place m ≤ length file.old) }
     ensures { file.new ≡ put file.old (link_place 0) (flat (link_copy graph.now) m) }
 {
-    let mut x: u16 = 0;
-    while x < m {
-        let l = x as usize;
+    for l in 0..m as usize {
         let link = link_fields(graph, l);
         record::link_within(file, l, link.a, link.b, link.weight);
-        x += 1;
     }
 }
 
@@ -38,8 +34,8 @@ fn weight_in(graph: &[u8], homes: &[u8], i: u8, l: usize) -> u16
     ensures { result ≡ weight_in graph.now homes.now i l }
 {
     let link = link_fields(graph, l);
-    let home_a = within(homes, link.a as usize);
-    let home_b = within(homes, link.b as usize);
+    let home_a = homes[link.a as usize];
+    let home_b = homes[link.b as usize];
     if home_a == i {
         return 0;
     }
@@ -56,12 +52,9 @@ fn put_weights(graph: &[u8], homes: &[u8], file: &mut [u8], m: u16, at: usize, i
     requires m_in_bounds { at + 2 * m ≤ length file.old }
     ensures { file.new ≡ put file.old at (flat (filled_bytes graph.now homes.now i) m) }
 {
-    let mut x: u16 = 0;
-    while x < m {
-        let l = x as usize;
+    for l in 0..m as usize {
         let w = weight_in(graph, homes, i, l);
         number_within(file, at + Network::WEIGHT * l, w);
-        x += 1;
     }
 }
 
@@ -83,11 +76,9 @@ fn put_rows(graph: &[u8], homes: &[u8], file: &mut [u8], net: Network, k: u8)
     requires k_in_bounds { row_place net k ≤ length file.old }
     ensures { file.new ≡ put file.old (row_place net 0) (flat (filled_row graph.now homes.now net.m) k) }
 {
-    let mut j: u8 = 0;
-    while j < k {
+    for j in 0..k {
         let at = row_place(net, j as usize);
         put_row(graph, homes, file, net, at, j);
-        j += 1;
     }
 }
 

@@ -9,7 +9,7 @@ ghost use Rattle.rules.specs.Building.{highest};
 ghost use Rattle.firstfit.specs.Fit.{spared_by, all_spared, word_admits, Placed};
 
 use rules::Network;
-use slices::byte;
+use slices::entry;
 use topologyrules::{backbone, connected, enter, topology_rule};
 use words::{adding, only};
 
@@ -103,7 +103,7 @@ pub fn highest(homes: &[u8]) -> u8
     let mut top: u8 = 0;
     let mut v: usize = 0;
     while v < homes.len() {
-        top = larger(top, byte(homes, v));
+        top = larger(top, entry(homes, v));
         v += 1;
     }
     top

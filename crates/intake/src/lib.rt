@@ -15,7 +15,7 @@ use judgement::judge;
 use layout::{header, home_topology, link_fields};
 use needs::need_set;
 use rules::{Network, Verdict, at};
-use slices::word;
+use slices::entry;
 use topologyrules::{enter, topology_rule};
 
 // ---- words from a file's bytes
@@ -62,7 +62,7 @@ fn isolated_in(isos: &[u32], i: u8) -> u32
     if i == 0 {
         return 0;
     }
-    word(isos, (i - 1) as usize)
+    entry(isos, (i - 1) as usize)
 }
 
 // The topologies in turn, by the neighbour words and the words of isolated nodes.

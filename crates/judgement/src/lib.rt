@@ -14,7 +14,7 @@ use layout::{
     end_a, end_b, header, home_place, home_topology, link_fields, link_place, row_place, row_weight,
 };
 use rules::{Network, Rule, Verdict, at};
-use slices::byte;
+use slices::entry;
 
 // ---- the header
 
@@ -25,7 +25,7 @@ fn header_rule(file: &[u8], net: Network) -> Result<(), Rule>
     ensures { broken result ≡ header_number file.now }
 {
     let long = file.len();
-    recordrules::header(long, byte(file, 0), byte(file, 1))?;
+    recordrules::header(long, entry(file, 0), entry(file, 1))?;
     recordrules::counts(net)?;
     recordrules::length(long, net.file_length())
 }
@@ -73,9 +73,9 @@ fn homes(file: &[u8], net: Network, count: usize) -> Verdict
         let judged = recordrules::home(
             net,
             v,
-            byte(file, place),
-            byte(file, place + 1),
-            byte(file, place + 2),
+            entry(file, place),
+            entry(file, place + 1),
+            entry(file, place + 2),
             home_topology(file, net, v),
         );
         at(place, judged)?;
@@ -108,9 +108,9 @@ fn row(file: &[u8], net: Network, j: usize, place: usize) -> Result<(), Rule>
 {
     recordrules::row(
         j + 1,
-        byte(file, place),
-        byte(file, place + 1),
-        byte(file, place + 2),
+        entry(file, place),
+        entry(file, place + 1),
+        entry(file, place + 2),
     )?;
     weights(file, net, j)
 }

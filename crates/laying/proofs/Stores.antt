@@ -10,7 +10,7 @@ use Rattle.rules.specs.declared.Network.{Network}
 use Rattle.rules.specs.Basics.{flat}
 use Rattle.rules.specs.Limits.{row_weights, row_length, home_records, link_place, home_place, row_place}
 use Rattle.rules.specs.File.{Set, bytes2, header_bytes, link_bytes, home_bytes, row_start, row_bytes, encode}
-use Rattle.rules.specs.Entries.Lists.{lists}
+use Rattle.rules.specs.Entries.Lists.{Lists}
 use Rattle.rules.specs.Entries.Write.{set_with}
 use Rattle.rules.proofs.Ground.Rows.{length_flat}
 use Rattle.rules.proofs.File.Encoded.{header_long, links_long}
@@ -22,10 +22,10 @@ use Rattle.laying.specs.Parts.{link_of, weight_of, row_of}
 
 -- ---- records
 
-pub link_laid : (d e a b weights : List ℕ) (l at x y w : ℕ) → at ≡ link_place l → x ≡ get_or a l 0 → y ≡ get_or b l 0 → w ≡ get_or weights l 0
-    → e ≡ put d at (link_record x y w) → e ≡ put d (link_place l) (link_of a b weights l)
+pub link_laid : (d e : List ℕ) (given : Lists) (l at x y w : ℕ) → at ≡ link_place l → x ≡ get_or given.a l 0 → y ≡ get_or given.b l 0 → w ≡ get_or given.weights l 0
+    → e ≡ put d at (link_record x y w) → e ≡ put d (link_place l) (link_of given l)
 unfolding link_of
-link_laid d e a b weights l at x y w p ex ey ew q = q ∙ rw (p, ex, ey, ew)
+link_laid d e given l at x y w p ex ey ew q = q ∙ rw (p, ex, ey, ew)
 
 pub row_laid : (h : Network) (rows d e e' : List ℕ) (j at first count : ℕ) → at ≡ row_place h j → first ≡ row_start h j → count ≡ row_weights h
     → e ≡ put d at (row_head (j + 1)) → e' ≡ put e (at + 3) (flat (weight_of rows first) count) → e' ≡ put d (row_place h j) (row_of h rows j)
@@ -35,10 +35,10 @@ row_laid h rows d e e' j at first count p q r s t =
 
 -- ---- records in turn
 
-pub links_more : (a b weights d e e' : List ℕ) (l m : ℕ) → Storing d e (link_place 0) (link_of a b weights) l m → l < m
-    → e' ≡ put e (link_place l) (link_of a b weights l) → Storing d e' (link_place 0) (link_of a b weights) (l + 1) m
+pub links_more : (given : Lists) (d e e' : List ℕ) (l m : ℕ) → Storing d e (link_place 0) (link_of given) l m → l < m
+    → e' ≡ put e (link_place l) (link_of given l) → Storing d e' (link_place 0) (link_of given) (l + 1) m
 unfolding link_place link_of link_record bytes2
-links_more a b weights d e e' l m s g q = storing_more d e e' 8 (link_of a b weights) l m (8 + 6 * l) 6 _ s g (λ i _. refl) (omega arith) refl q
+links_more given d e e' l m s g q = storing_more d e e' 8 (link_of given) l m (8 + 6 * l) 6 _ s g (λ i _. refl) (omega arith) refl q
 
 pub weights_more : (rows d e e' : List ℕ) (base first x n w : ℕ) → Storing d e base (weight_of rows first) x n → x < n
     → w ≡ get_or rows (first + x) 0 → e' ≡ put e (base + 2 * x) (bytes2 w) → Storing d e' base (weight_of rows first) (x + 1) n
@@ -70,12 +70,12 @@ backup_laid h homes d e e' R n c p q =
     put_then d e e' _ _ (flat (home_of homes) (home_records h)) R (p ∙ ap (λ (x : ℕ). put d (home_place h 0) (flat (home_of homes) x)) c) q
     (rw zero-mul (omega arith))
 
-pub set_laid : (h : Network) (a b weights homes rows d e e' : List ℕ) → e ≡ put d 0 (header_bytes h ++ flat (link_of a b weights) h.m)
-    → e' ≡ put e (home_place h 0) (flat (home_of homes) (home_records h) ++ flat (row_of h rows) h.k)
-    → e' ≡ put d 0 (encode (set_with h (lists a b weights homes rows)))
+pub set_laid : (h : Network) (given : Lists) (d e e' : List ℕ) → e ≡ put d 0 (header_bytes h ++ flat (link_of given) h.m)
+    → e' ≡ put e (home_place h 0) (flat (home_of given.homes) (home_records h) ++ flat (row_of h given.rows) h.k)
+    → e' ≡ put d 0 (encode (set_with h given))
 unfolding home_place link_place set_with encode link_bytes link_of link_record home_bytes home_of home_record row_bytes row_of row_head weight_of
-set_laid h a b weights homes rows d e e' p q =
-    let S : Set = set_with h (lists a b weights homes rows) in
+set_laid h given d e e' p q =
+    let S : Set = set_with h given in
     let L : List ℕ = flat (link_bytes S) h.m in
     let R : List ℕ = flat (home_bytes S) (home_records h) ++ flat (row_bytes S) h.k in
     put_then d e e' 0 _ (header_bytes h ++ L) R p q (omega (arith, header_long S, links_long S, length-append (header_bytes h) L))

@@ -4,11 +4,12 @@ use Rattle.rules.specs.declared.Network.{Network}
 use Rattle.rules.specs.Basics.{flat}
 use Rattle.rules.specs.Limits.{row_weights}
 use Rattle.rules.specs.File.{bytes2, row_start}
+use Rattle.rules.specs.Entries.Lists.{Lists}
 use Rattle.layout.specs.Records.{link_record, row_head}
 
 -- link l's record
-unfoldable pub link_of : List ℕ → List ℕ → List ℕ → ℕ → List ℕ
-link_of a b weights l = link_record (get_or a l 0) (get_or b l 0) (get_or weights l 0)
+unfoldable pub link_of : Lists → ℕ → List ℕ
+link_of d l = link_record (get_or d.a l 0) (get_or d.b l 0) (get_or d.weights l 0)
 
 -- weight x of a row whose weights stand in `rows` from entry `first` on
 unfoldable pub weight_of : List ℕ → ℕ → ℕ → List ℕ

@@ -6,13 +6,13 @@ ghost use Rattle.std.specs.Prelude.{◌≡◌, ◌++◌, ◌<◌};
 ghost use Rattle.rules.specs.Basics.{flat};
 ghost use Rattle.rules.specs.Limits.{home_records, link_place, home_place, row_place};
 ghost use Rattle.rules.specs.File.{header_bytes, row_start, encode};
-ghost use Rattle.rules.specs.Entries.Lists.{lists};
 ghost use Rattle.rules.specs.Entries.Write.{set_with};
 ghost use Rattle.slices.specs.Stores.{put};
+ghost use Rattle.layout.specs.Held.{held};
 ghost use Rattle.layout.specs.Records.{home_of};
 ghost use Rattle.laying.specs.Parts.{link_of, weight_of, row_of};
 
-use layout::{link_place, record, row_place};
+use layout::{Lists, link_place, record, row_place};
 use rules::Network;
 use slices::entry;
 use slices::store::number;
@@ -20,33 +20,30 @@ use slices::store::number;
 // ---- the links
 
 // Link l's record, at its place.
-fn link(file: &mut [u8], a: &[u8], b: &[u8], weights: &[u16], l: usize)
+fn link(file: &mut [u8], lists: Lists, l: usize)
     requires { l < 65536 }
-    ensures { file.new ≡ put file.old (link_place l) (link_of a.now b.now weights.now l) }
+    ensures { file.new ≡ put file.old (link_place l) (link_of (held lists.entry) l) }
 {
-    let x = slices::byte(a, l);
-    let y = slices::byte(b, l);
-    let w = entry(weights, l);
+    let x = entry(lists.a, l);
+    let y = entry(lists.b, l);
+    let w = entry(lists.weights, l);
     record::link(file, link_place(l), x, y, w);
 }
 
-fn links(file: &mut [u8], a: &[u8], b: &[u8], weights: &[u16], m: usize)
-    requires { m < 65536 }
-    ensures { file.new ≡ put file.old (link_place 0) (flat (link_of a.now b.now weights.now) m) }
+fn links(file: &mut [u8], lists: Lists, m: u16)
+    ensures { file.new ≡ put file.old (link_place 0) (flat (link_of (held lists.entry)) m) }
 {
-    let mut l = 0;
-    while l < m {
-        link(file, a, b, weights, l);
-        l += 1;
+    for l in 0..m {
+        link(file, lists, l as usize);
     }
 }
 
 // A graph's file.
-fn graph(file: &mut [u8], net: Network, a: &[u8], b: &[u8], weights: &[u16])
-    ensures { file.new ≡ put file.old 0 (header_bytes net ++ flat (link_of a.now b.now weights.now) net.m) }
+fn graph(file: &mut [u8], net: Network, lists: Lists)
+    ensures { file.new ≡ put file.old 0 (header_bytes net ++ flat (link_of (held lists.entry)) net.m) }
 {
     record::header(file, net);
-    links(file, a, b, weights, net.m as usize);
+    links(file, lists, net.m);
 }
 
 // ---- the homes and the rows
@@ -64,58 +61,44 @@ fn weights(file: &mut [u8], at: usize, rows: &[u16], first: usize, count: usize)
     requires { (at < 1073741824) × ((first < 1073741824) × (count < 65536)) }
     ensures { file.new ≡ put file.old at (flat (weight_of rows.now first) count) }
 {
-    let mut x = 0;
-    while x < count {
+    for x in 0..count {
         let w = entry(rows, first + x);
         number(file, at + Network::WEIGHT * x, w);
-        x += 1;
     }
 }
 
-fn row(file: &mut [u8], net: Network, rows: &[u16], j: usize)
+fn row(file: &mut [u8], net: Network, rows: &[u16], j: u8)
     requires { j < 255 }
     ensures { file.new ≡ put file.old (row_place net j) (row_of net rows.now j) }
 {
-    let at = row_place(net, j);
-    let first = row_start(net, j);
+    let at = row_place(net, j as usize);
+    let first = row_start(net, j as usize);
     let count = net.row_weights();
-    record::row_head(file, at, (j + 1) as u8);
+    record::row_head(file, at, j + 1);
     weights(file, at + Network::ROW_HEAD, rows, first, count);
 }
 
 fn rows(file: &mut [u8], net: Network, rows: &[u16])
     ensures { file.new ≡ put file.old (row_place net 0) (flat (row_of net rows.now) net.k) }
 {
-    let k = net.k as usize;
-    let mut j = 0;
-    while j < k {
+    for j in 0..net.k {
         row(file, net, rows, j);
-        j += 1;
     }
 }
 
 // What follows the links.
-fn backup(file: &mut [u8], net: Network, list: &[u8], weights: &[u16])
-    ensures { file.new ≡ put file.old (home_place net 0) (flat (home_of list.now) (home_records net) ++ flat (row_of net weights.now) net.k) }
+fn backup(file: &mut [u8], net: Network, lists: Lists)
+    ensures { file.new ≡ put file.old (home_place net 0) (flat (home_of lists.entry.homes.now) (home_records net) ++ flat (row_of net lists.entry.rows.now) net.k) }
 {
-    let count = net.home_records();
-    record::homes(file, net, list, count);
-    rows(file, net, weights);
+    record::homes(file, net, lists.homes, net.home_records());
+    rows(file, net, lists.rows);
 }
 
 // The whole file.
 // Rules out: every row laid over the first `every_row_at_the_first_place`; the rows before the homes.
-pub fn set(
-    file: &mut [u8],
-    net: Network,
-    a: &[u8],
-    b: &[u8],
-    weights: &[u16],
-    homes: &[u8],
-    rows: &[u16],
-)
-    ensures { file.new ≡ put file.old 0 (encode (set_with net (lists a.now b.now weights.now homes.now rows.now))) }
+pub fn set(file: &mut [u8], net: Network, lists: Lists)
+    ensures { file.new ≡ put file.old 0 (encode (set_with net (held lists.entry))) }
 {
-    graph(file, net, a, b, weights);
-    backup(file, net, homes, rows);
+    graph(file, net, lists);
+    backup(file, net, lists);
 }

@@ -32,9 +32,6 @@ one_link s l r r' p q =
 
 -- ---- records stored
 
-pub marked_put : (d e e' : List ℕ) (at x y z : ℕ) → e ≡ put d at (x ∷ y ∷ []) → e' ≡ put e (at + 2) (z ∷ []) → e' ≡ put d at (x ∷ y ∷ z ∷ [])
-marked_put d e e' at x y z p q = put_then d e e' at (at + 2) (x ∷ y ∷ []) (z ∷ []) p q refl
-
 pub header_put : (d e e' e'' f : List ℕ) (h : Network) → e ≡ put d 0 (0x4E ∷ 0x57 ∷ h.n ∷ []) → e' ≡ put e 3 (bytes2 h.m) → e'' ≡ put e' 5 (h.k ∷ [])
     → f ≡ put e'' 6 (bytes2 h.wmax) → f ≡ put d 0 (header_bytes h)
 unfolding header_bytes bytes2
@@ -47,11 +44,9 @@ pub link_put : (d e e' : List ℕ) (at a b w : ℕ) → e ≡ put d at (0x4C ∷
 unfolding link_record
 link_put d e e' at a b w p q = put_then d e e' at (at + 4) (0x4C ∷ 0x4B ∷ a ∷ b ∷ []) (bytes2 w) p q refl
 
-pub whole_put : (d e e' e'' : List ℕ) (l at a b w : ℕ) → at ≡ link_place l → e ≡ put d at (0x4C ∷ 0x4B ∷ []) → e' ≡ put e (at + 2) (a ∷ b ∷ []) → e'' ≡ put e' (at + 4) (bytes2 w)
-    → e'' ≡ put d (link_place l) (link_record a b w)
-unfolding link_record
-whole_put d e e' e'' l at a b w i p q r =
-    rw (← i) (put_then d e' e'' at (at + 4) (0x4C ∷ 0x4B ∷ a ∷ b ∷ []) (bytes2 w) (put_then d e e' at (at + 2) (0x4C ∷ 0x4B ∷ []) (a ∷ b ∷ []) p q refl) r refl)
+pub whole_put : (d e e' : List ℕ) (l at a b w : ℕ) → at ≡ link_place l → e ≡ put d at (0x4C ∷ 0x4B ∷ a ∷ b ∷ []) → e' ≡ put e (at + 4) (bytes2 w)
+    → e' ≡ put d (link_place l) (link_record a b w)
+whole_put d e e' l at a b w i p q = rw (← i) (link_put d e e' at a b w p q)
 
 pub home_put : (d e : List ℕ) (at v t : ℕ) → e ≡ put d at (0x48 ∷ 0x4D ∷ v ∷ t ∷ []) → e ≡ put d at (home_record v t)
 unfolding home_record
@@ -67,4 +62,4 @@ unfolding home_place home_of home_record
 homes_more h homes d e e' v n at t s g p et q =
     storing_more d e e' _ (home_of homes) v n at 4 _ s g (λ i _. refl) (omega arith) (rw et) q
 
-pub ruleset records = (marked_put, header_put, link_put, whole_put, home_put, head_put, storing_none, storing_done, homes_more)
+pub ruleset records = (header_put, link_put, whole_put, home_put, head_put, storing_none, storing_done, homes_more)

@@ -11,7 +11,7 @@ ghost use Rattle.rules.specs.File.{header_of, end_a, end_b, link_weight, home_to
 ghost use Rattle.layout.specs.Fields.{LinkAt};
 
 use rules::Network;
-use slices::{byte, two, two_within, within};
+use slices::{entry, two, two_within};
 
 // A link's record: the two bytes of its mark, its ends, its weight in topology 0.
 #[derive(Clone, Copy)]
@@ -21,6 +21,16 @@ pub struct LinkFields {
     pub a: u8,
     pub b: u8,
     pub weight: u16,
+}
+
+// The lists that a file is laid from: the links' ends and weights, the nodes' homes, and the weights of the rows one after the other.
+#[derive(Clone, Copy)]
+pub struct Lists<'a> {
+    pub a: &'a [u8],
+    pub b: &'a [u8],
+    pub weights: &'a [u16],
+    pub homes: &'a [u8],
+    pub rows: &'a [u16],
 }
 
 // ---- places
@@ -57,7 +67,7 @@ pub fn row_place(net: Network, j: usize) -> usize
 pub fn header(file: &[u8]) -> Network
     ensures { result ≡ header_of file.now }
 {
-    Network::header(byte(file, 2), two(file, 3), byte(file, 5), two(file, 6))
+    Network::header(entry(file, 2), two(file, 3), entry(file, 5), two(file, 6))
 }
 
 // ---- fields: after its mark's two bytes a link has a, b and a weight of two bytes, a home its node and topology
@@ -68,7 +78,7 @@ pub fn end_a(file: &[u8], l: usize) -> u8
     requires { l < 16777216 }
     ensures { result ≡ end_a file.now l }
 {
-    byte(file, link_place(l) + 2)
+    entry(file, link_place(l) + 2)
 }
 
 // Rules out: the other end; the first byte of the weight.
@@ -76,7 +86,7 @@ pub fn end_b(file: &[u8], l: usize) -> u8
     requires { l < 16777216 }
     ensures { result ≡ end_b file.now l }
 {
-    byte(file, link_place(l) + 3)
+    entry(file, link_place(l) + 3)
 }
 
 // Link l's weight in topology 0.
@@ -90,6 +100,7 @@ pub fn link_weight(file: &[u8], l: usize) -> u16
 
 // All of link l's record, where the file reaches that far.
 // Rules out: the ends exchanged `ends_exchanged`; the weight of the link after.
+#[tactic(auto, unfolding(rules::specs::Limits::link_place))]
 pub fn link_fields(file: &[u8], l: usize) -> LinkFields
     requires l_bound { l < 16777216 }
     requires l_in_bounds { link_place (l + 1) ≤ length file.now }
@@ -97,10 +108,10 @@ pub fn link_fields(file: &[u8], l: usize) -> LinkFields
 {
     let at = link_place(l);
     LinkFields {
-        x: within(file, at),
-        y: within(file, at + 1),
-        a: within(file, at + 2),
-        b: within(file, at + 3),
+        x: file[at],
+        y: file[at + 1],
+        a: file[at + 2],
+        b: file[at + 3],
         weight: two_within(file, at + 4),
     }
 }
@@ -111,7 +122,7 @@ pub fn home_topology(file: &[u8], net: Network, v: usize) -> u8
     requires { v < 16777216 }
     ensures { result ≡ home_topology file.now net v }
 {
-    byte(file, home_place(net, v) + 3)
+    entry(file, home_place(net, v) + 3)
 }
 
 // Weight x of the row of topology j + 1.

@@ -1,6 +1,6 @@
 // The records of a file, stored at a place of a lent file. A byte past the file's end is stored nowhere, so no store asks for room but
 // `link_within`: that there is room is for a verdict to say.
-ghost use Rattle.std.specs.Prelude.{◌≡◌, [], ◌∷◌, ◌+◌, ◌≤◌, ◌<◌, length};
+ghost use Rattle.std.specs.Prelude.{◌≡◌, ◌+◌, ◌≤◌, ◌<◌, length};
 ghost use Rattle.rules.specs.Basics.{flat};
 ghost use Rattle.rules.specs.Limits.{link_place, home_place};
 ghost use Rattle.rules.specs.File.{header_bytes};
@@ -9,30 +9,17 @@ ghost use Rattle.layout.specs.Records.{link_record, home_record, home_of, row_he
 
 use crate::{home_place, link_place};
 use rules::Network;
-use slices::store::{byte, four, number, number_within, pair, two};
-
-// The mark of a link.
-const L: u8 = 0x4C;
-
-const K: u8 = 0x4B;
-
-// A mark and the byte after it.
-fn marked(file: &mut [u8], at: usize, x: u8, y: u8, z: u8)
-    requires { at < 4294967296 }
-    ensures { file.new ≡ put file.old at (x ∷ y ∷ z ∷ []) }
-{
-    two(file, at, x, y);
-    byte(file, at + 2, z);
-}
+use slices::entry;
+use slices::store::{bytes, number, number_within, within};
 
 // The network record, at the file's front.
 // Rules out: wmax with its lower byte first `slices/weight_bytes_swapped`; k before m.
 pub fn header(file: &mut [u8], net: Network)
     ensures { file.new ≡ put file.old 0 (header_bytes net) }
 {
-    marked(file, 0, 0x4E, 0x57, net.n);
+    bytes(file, 0, [b'N', b'W', net.n]);
     number(file, 3, net.m);
-    byte(file, 5, net.k);
+    bytes(file, 5, [net.k]);
     number(file, 6, net.wmax);
 }
 
@@ -42,20 +29,20 @@ pub fn link(file: &mut [u8], at: usize, a: u8, b: u8, w: u16)
     requires { at < 134217728 }
     ensures { file.new ≡ put file.old at (link_record a b w) }
 {
-    four(file, at, L, K, a, b);
+    bytes(file, at, [b'L', b'K', a, b]);
     number(file, at + 4, w);
 }
 
 // Link l's record at its own place, where all of it is before the end.
 // Rules out: the weight with its lower byte first `slices/lower_byte_first`; end b before end a.
+#[tactic(auto, using(crate::proofs::Records::whole_put), unfolding(rules::specs::Limits::link_place))]
 pub fn link_within(file: &mut [u8], l: usize, a: u8, b: u8, w: u16)
     requires l_bound { l < 16777216 }
     requires l_in_bounds { link_place (l + 1) ≤ length file.old }
     ensures { file.new ≡ put file.old (link_place l) (link_record a b w) }
 {
     let at = link_place(l);
-    pair(file, at, L, K);
-    pair(file, at + 2, a, b);
+    within(file, at, [b'L', b'K', a, b]);
     number_within(file, at + 4, w);
 }
 
@@ -65,7 +52,7 @@ pub fn home(file: &mut [u8], at: usize, v: u8, topology: u8)
     requires { at < 268435456 }
     ensures { file.new ≡ put file.old at (home_record v topology) }
 {
-    four(file, at, 0x48, 0x4D, v, topology);
+    bytes(file, at, [b'H', b'M', v, topology]);
 }
 
 // The start of a row: its mark and its topology. Its weights follow, two bytes each.
@@ -74,7 +61,7 @@ pub fn row_head(file: &mut [u8], at: usize, topology: u8)
     requires { at < 1073741824 }
     ensures { file.new ≡ put file.old at (row_head topology) }
 {
-    marked(file, at, 0x42, 0x57, topology);
+    bytes(file, at, [b'B', b'W', topology]);
 }
 
 // The first home records, by a list of homes.
@@ -83,10 +70,7 @@ pub fn homes(file: &mut [u8], net: Network, homes: &[u8], count: usize)
     requires { count < 256 }
     ensures { file.new ≡ put file.old (home_place net 0) (flat (home_of homes.now) count) }
 {
-    let mut v = 0;
-    while v < count {
-        let topology = slices::byte(homes, v);
-        home(file, home_place(net, v), v as u8, topology);
-        v += 1;
+    for v in 0..count {
+        home(file, home_place(net, v), v as u8, entry(homes, v));
     }
 }

@@ -1,17 +1,10 @@
 -- What the lists hold, over the header's counts. The published entry says the same of a set.
-use Rattle.std.specs.Prelude.{List, ℕ, ◌+◌, ◌*◌, get_or}
+use Rattle.std.specs.Prelude.{List, ℕ}
 use Rattle.rules.specs.declared.Network.{Network}
 use Rattle.rules.specs.Basics.{up_to, flat, laid}
 use Rattle.rules.specs.Limits.{row_weights, home_records}
-use Rattle.rules.specs.File.{two, end_a, end_b, link_weight, home_topology, row_weight}
+use Rattle.rules.specs.File.{end_a, end_b, link_weight, home_topology, row_weight}
 use Rattle.rules.specs.Entries.Lists.{Lists, lists}
-
--- the bytes at equal distances, and the numbers of two bytes
-unfoldable pub byte_at : List ℕ → ℕ → ℕ → ℕ → ℕ
-byte_at s from stride i = get_or s (from + stride * i) 0
-
-unfoldable pub two_at : List ℕ → ℕ → ℕ → ℕ → ℕ
-two_at s from stride i = two s (from + stride * i)
 
 -- the row of topology j + 1
 unfoldable pub row_of : List ℕ → Network → ℕ → List ℕ

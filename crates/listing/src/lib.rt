@@ -3,46 +3,27 @@
 // enough. What the fields may hold is the judgement's to say.
 #![tactic(auto)]
 
-ghost use Rattle.std.specs.Prelude.{◌≡◌, ◌*◌, ◌<◌, ◌≤◌, length};
+ghost use Rattle.std.specs.Prelude.{◌≡◌, ◌++◌, ℕ, ◌*◌, ◌<◌, ◌≤◌, length, drop};
 ghost use Rattle.rules.specs.Basics.{up_to, flat, laid};
 ghost use Rattle.rules.specs.Limits.{row_weights};
 ghost use Rattle.rules.specs.File.{end_a, end_b, link_weight, home_topology, row_weight};
 ghost use Rattle.rules.specs.Entries.Lists.{lists, LongLists};
-ghost use Rattle.listing.specs.Fields.{byte_at, two_at, row_of, lists_of};
+ghost use Rattle.listing.specs.Fields.{row_of, lists_of};
 
-use layout::{home_place, row_place};
+use layout::{end_a, end_b, home_topology, link_weight, row_weight};
 use rules::Network;
-use slices::{byte, two};
 
 // ---- one list
 
-// The bytes at from, from + stride and so on, at the front of a list.
-// Rules out: bytes that stand side by side, where the stride is more than 1; an entry past the count altered.
-pub fn bytes_into(file: &[u8], from: usize, stride: usize, count: usize, out: &mut [u8])
-    requires { (count ≤ length out.old) × ((count < 1048576) × ((stride < 256) × (from < 1073741824))) }
-    ensures { out.new ≡ laid (up_to (byte_at file.now from stride) count) out.old }
+// What `read` gives of 0, 1 and so on, at the front of a list.
+// Rules out: what it gives of 0 in every entry `first_read_in_every_entry`; an entry past the count altered.
+pub fn read_into<T: Copy, F: Fn(usize) -> T>(read: F, count: usize, out: &mut [T])
+    requires room { count ≤ length out.old }
+    requires calls { (i : ℕ) → i < count → F.pre read i }
+    ensures { (f : ℕ → T) → ((i : ℕ) (x : T) → i < count → F.post read i x → x ≡ f i) → out.new ≡ up_to f count ++ drop count out.old }
 {
-    let mut i = 0;
-    let mut at = from;
-    while i < count {
-        out[i] = byte(file, at);
-        at += stride;
-        i += 1;
-    }
-}
-
-// The same of numbers of two bytes.
-// Rules out: the lower byte first; an entry past the count altered.
-pub fn twos_into(file: &[u8], from: usize, stride: usize, count: usize, out: &mut [u16])
-    requires { (count ≤ length out.old) × ((count < 1048576) × ((stride < 256) × (from < 1073741824))) }
-    ensures { out.new ≡ laid (up_to (two_at file.now from stride) count) out.old }
-{
-    let mut i = 0;
-    let mut at = from;
-    while i < count {
-        out[i] = two(file, at);
-        at += stride;
-        i += 1;
+    for (i, x) in out[..count].iter_mut().enumerate() {
+        *x = read(i);
     }
 }
 
@@ -52,7 +33,7 @@ pub fn ends_a_into(file: &[u8], m: usize, out: &mut [u8])
     requires { (m ≤ length out.old) × (m < 1048576) }
     ensures { out.new ≡ laid (up_to (end_a file.now) m) out.old }
 {
-    bytes_into(file, Network::HEADER + 2, Network::LINK, m, out);
+    read_into(|l| end_a(file, l), m, out);
 }
 
 // Their ends b.
@@ -61,7 +42,7 @@ pub fn ends_b_into(file: &[u8], m: usize, out: &mut [u8])
     requires { (m ≤ length out.old) × (m < 1048576) }
     ensures { out.new ≡ laid (up_to (end_b file.now) m) out.old }
 {
-    bytes_into(file, Network::HEADER + 3, Network::LINK, m, out);
+    read_into(|l| end_b(file, l), m, out);
 }
 
 // Their weights in topology 0.
@@ -70,7 +51,7 @@ pub fn weights_into(file: &[u8], m: usize, out: &mut [u16])
     requires { (m ≤ length out.old) × (m < 1048576) }
     ensures { out.new ≡ laid (up_to (link_weight file.now) m) out.old }
 {
-    twos_into(file, Network::HEADER + 4, Network::LINK, m, out);
+    read_into(|l| link_weight(file, l), m, out);
 }
 
 // The first nodes' homes.
@@ -79,7 +60,7 @@ pub fn homes_into(file: &[u8], net: Network, count: usize, out: &mut [u8])
     requires { (count ≤ length out.old) × (count < 1048576) }
     ensures { out.new ≡ laid (up_to (home_topology file.now net) count) out.old }
 {
-    bytes_into(file, home_place(net, 0) + 3, Network::HOME, count, out);
+    read_into(|v| home_topology(file, net, v), count, out);
 }
 
 // The weights of the row of topology j + 1.
@@ -88,13 +69,7 @@ pub fn row_into(file: &[u8], net: Network, j: usize, count: usize, out: &mut [u1
     requires { (j < 256) × ((count ≤ length out.old) × (count < 1048576)) }
     ensures { out.new ≡ laid (up_to (row_weight file.now net j) count) out.old }
 {
-    twos_into(
-        file,
-        row_place(net, j) + Network::ROW_HEAD,
-        Network::WEIGHT,
-        count,
-        out,
-    );
+    read_into(|x| row_weight(file, net, j, x), count, out);
 }
 
 // The rows one after the other.
@@ -104,13 +79,8 @@ pub fn rows_into(file: &[u8], net: Network, out: &mut [u16])
     ensures { out.new ≡ laid (flat (row_of file.now net) net.k) out.old }
 {
     let long = net.row_weights();
-    let k = net.k as usize;
-    let mut j = 0;
-    let mut base = 0;
-    while j < k {
-        row_into(file, net, j, long, &mut out[base..]);
-        base += long;
-        j += 1;
+    for j in 0..net.k as usize {
+        row_into(file, net, j, long, &mut out[j * long..]);
     }
 }
 

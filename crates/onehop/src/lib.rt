@@ -15,7 +15,6 @@ ghost use Rattle.onehop.specs.Hop.{tables_at, kind_by, detour_by, detour_of, onw
 use layout::home_topology;
 use linkstate::{is_up, neighbours};
 use rules::{Failure, Kind, Network, Packet, Step};
-use slices::byte;
 
 // ---- homes and tables
 
@@ -39,7 +38,7 @@ pub fn entry(tables: &[u8], net: Network, i: usize, u: u8, t: u8) -> u8
     requires { i < 65536 }
     ensures { result ≡ get_or tables.now (entry_place net i u t) 0 }
 {
-    byte(tables, net.entry_place(i, u, t))
+    slices::entry(tables, net.entry_place(i, u, t))
 }
 
 // ---- one hop

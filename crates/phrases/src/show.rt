@@ -1,6 +1,6 @@
 // What is written: phrases, numbers and lists after a case's name. An answer is one word as the library packs it: in bit 63 whether
 // it is a refusal.
-use slices::byte;
+use slices::entry;
 use std::io;
 use std::io::Write;
 use std::num::{wrapping_add_usize, wrapping_sub_usize};
@@ -120,7 +120,7 @@ pub fn read<W: Write>(out: &mut W, word: u64) -> io::Result<()> {
 
 // The number whose low byte stands at this place.
 fn two(file: &[u8], at: usize) -> u64 {
-    256 * (byte(file, wrapping_sub_usize(at, 1)) as u64) + byte(file, at) as u64
+    256 * (entry(file, wrapping_sub_usize(at, 1)) as u64) + entry(file, at) as u64
 }
 
 // So many numbers of a file: the first's low byte stands at `from`, and each next one's a step on. The mask is 255 for a byte and

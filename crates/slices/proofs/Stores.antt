@@ -1,12 +1,14 @@
 -- Stores one after the other are one store of the bytes together.
 use mathlib.Core.Path.{◌≡◌, refl, sym, ap, ap₂, ◌∙◌}
-use mathlib.Core.List.{List, [], ◌∷◌, ◌++◌}
-use Prim.Native.Nat.{ℕ, suc, ◌+◌, ◌*◌, ◌/◌, ◌%◌, ◌≤◌, ◌<◌}
+use mathlib.Core.List.{List, [], ◌∷◌, ◌++◌, append_assoc}
+use Prim.Native.Nat.{ℕ, zero, suc, ◌+◌, ◌-◌, ◌*◌, ◌%◌, ◌^◌, ◌≤◌, ◌<◌}
 use native.Mathlib.Nat.{add-zero, add-suc, suc-add}
 use native.Mathlib.Numerals.{add-one}
 use native.Mathlib.Omega.{arith}
-use lib.ListN.{length, get_or, set, drop}
-use lib.Seq.{sets, length-sets, sets-eq, set_out}
+use lib.ListN.{length, get_or, set, take, drop, length-set, length-drop}
+use lib.Seq.{sets, length-sets, sets-eq, set_out, drop-drop, length-take-le}
+use borrow.Rule.Slice.PartMut.{mid_of, put_mid}
+use Rattle.std.specs.Int.{w16, to_be_bytes}
 use Rattle.rules.specs.Basics.{flat, laid}
 use Rattle.rules.specs.File.{two, bytes2}
 use Rattle.rules.proofs.Ground.Rows.{past, length_flat}
@@ -30,39 +32,53 @@ put_then d e e' at to xs ys p q r = q ∙ ap₂ (λ (l : List ℕ) (x : ℕ). se
 
 -- ---- two bytes, read
 
-pub two_there : (d : List ℕ) (at h l : ℕ) → h ≡ get_or d at 0 → l ≡ get_or d (at + 1) 0 → 256 * h + l ≡ two d at
+pub two_there : (d : List ℕ) (at h l r : ℕ) → h ≡ get_or d at 0 → l ≡ get_or d (at + 1) 0 → r ≡ h * 256 + l → r ≡ two d at
 unfolding two
-two_there d at h l p q = rw (p, q)
+two_there d at h l r p q e = omega (arith, p, q, e)
 
-pub two_short : (d : List ℕ) (at h : ℕ) → h ≡ get_or d at 0 → length d ≤ at + 1 → 256 * h ≡ two d at
+pub two_short : (d : List ℕ) (at h r : ℕ) → h ≡ get_or d at 0 → length d ≤ at + 1 → r ≡ h * 256 + 0 → r ≡ two d at
 unfolding two
-two_short d at h p e = rw (← past d (at + 1) e, p, add-zero)
+two_short d at h r p e q = omega (arith, p, q, past d (at + 1) e)
 
 -- ---- bytes
+
+sets_past : (xs d : List ℕ) (at : ℕ) → length d ≤ at → sets d at xs ≡ d
+sets_past [] d at h = refl
+sets_past (x ∷ xs) d at h = ap (λ (e : List ℕ). sets e (suc at) xs) (set_out d at x h) ∙ sets_past xs d (suc at) (omega arith)
+
+-- of what is stored, only what the slice reaches counts
+sets_short : (xs d : List ℕ) (at k : ℕ) → length d ≤ at + k → sets d at (take k xs) ≡ sets d at xs
+sets_short [] d at zero h = refl
+sets_short [] d at (suc k) h = refl
+sets_short (x ∷ xs) d at zero h = sym (sets_past (x ∷ xs) d at (omega arith))
+sets_short (x ∷ xs) d at (suc k) h = sets_short xs (set d at x) (suc at) k (rw length-set (omega arith))
 
 pub put_inside : (d : List ℕ) (at x : ℕ) → set d at x ≡ put d at (x ∷ [])
 unfolding put
 put_inside d at x = refl
 
-pub put_past : (d : List ℕ) (at x : ℕ) → length d ≤ at → d ≡ put d at (x ∷ [])
+-- a part of the slice, copied over
+pub put_part : (d l p : List ℕ) (at k : ℕ) → p ≡ l → at + k ≤ length d → length p ≡ length (mid_of at k d) → put_mid at k d p ≡ put d at l
 unfolding put
-put_past d at x h = sym (set_out d at x h)
+put_part d l p at k e h n =
+    let long : length (mid_of at k d) ≡ k = length-take-le k (drop at d) (omega (arith, length-drop at d)) in
+    let same : length l ≡ k = sym (ap length e) ∙ n ∙ long in
+    ap₂ (λ (x y : List ℕ). take at d ++ (x ++ y)) e (drop-drop k at d ∙ ap (λ (x : ℕ). drop (at + x) d) (sym same))
+    ∙ sym (append_assoc (take at d) l (drop (at + length l) d))
+    ∙ sym (sets-eq l d at (omega (arith, same)))
 
-pub two_inside : (d : List ℕ) (at x y : ℕ) → set (set d at x) (at + 1) y ≡ put d at (x ∷ y ∷ [])
+pub put_short : (d l p : List ℕ) (at k : ℕ) → p ≡ take k l → k ≡ length d - at → at ≤ length d → length p ≡ length (mid_of at k d) → put_mid at k d p ≡ put d at l
+put_short d l p at k e q h n = put_part d (take k l) p at k e (omega arith) n ∙ unfold put in sets_short l d at k (omega arith)
+
+pub put_past : (d l : List ℕ) (at : ℕ) → length d ≤ at → d ≡ put d at l
 unfolding put
-two_inside d at x y = rw add-one
+put_past d l at h = sym (sets_past l d at h)
 
-pub two_past : (d e : List ℕ) (at x y : ℕ) → length d ≤ at + 1 → e ≡ put d at (x ∷ []) → e ≡ put d at (x ∷ y ∷ [])
-two_past d e at x y h p = put_then d e e at (at + 1) (x ∷ []) (y ∷ []) p (put_past e (at + 1) y (rw (p, length_put d at (x ∷ [])) h)) refl
-
-pub four_put : (d e e' : List ℕ) (at w x y z : ℕ) → e ≡ put d at (w ∷ x ∷ []) → e' ≡ put e (at + 2) (y ∷ z ∷ []) → e' ≡ put d at (w ∷ x ∷ y ∷ z ∷ [])
-four_put d e e' at w x y z p q = put_then d e e' at (at + 2) (w ∷ x ∷ []) (y ∷ z ∷ []) p q refl
-
-pub number_put : (d e : List ℕ) (at w : ℕ) → e ≡ put d at (w / 256 ∷ w % 256 ∷ []) → e ≡ put d at (bytes2 w)
+pub number_put : (d e l : List ℕ) (at w : ℕ) → e ≡ put d at l → l ≡ to_be_bytes w16 w → w < 2 ^ 16 → e ≡ put d at (bytes2 w)
 unfolding bytes2
-number_put d e at w p = p
+number_put d e l at w p q h = p ∙ ap (put d at) (q ∙ ap (λ (x : ℕ). x ∷ w % 256 ∷ []) (omega arith))
 
-pub ruleset bytes = (put_inside, put_past, two_inside, two_past, four_put, number_put)
+pub ruleset bytes = (put_part, put_short, put_past, number_put)
 
 -- ---- records in turn
 

@@ -1,5 +1,5 @@
 // Numbers at a place in a slice, read and stored at any place. A read past the end gives 0, and a store past the end alters nothing,
-// so no caller has to check a place. Where a place is known to be before the end, `within` and its like read and store without a test.
+// so no caller has to check a place. Where a place is known to be before the end, `two_within` and its like read and store without a test.
 // Each function promises the entry, or the whole slice after the store.
 #![tactic(auto)]
 
@@ -8,21 +8,37 @@ pub mod store; // store.rt: bytes, numbers of two bytes, and another slice at th
 ghost use Rattle.std.specs.Prelude.{◌≡◌, ◌+◌, ◌<◌, length, get_or};
 ghost use Rattle.rules.specs.File.{two};
 
-// The byte at a place, and 0 past the end.
-// Rules out: the byte before; anything but 0 past the end.
-pub fn byte(bytes: &[u8], at: usize) -> u8
-    ensures { result ≡ get_or bytes.now at 0 }
-{
-    if at < bytes.len() { bytes[at] } else { 0 }
+// A number of 8, 16 or 32 bits: what a list holds. Its default is 0.
+pub trait Number: Copy + Default {
+    ghost nought: { Self };
+
+    ghost default_is_nought: { (x : Self) → Self.is_default x → x ≡ nought };
 }
 
-// The byte at a place before the end.
-// Rules out: the byte before; 0 in its place.
-pub fn within(bytes: &[u8], at: usize) -> u8
-    requires { at < length bytes.now }
-    ensures { result ≡ get_or bytes.now at 0 }
+impl Number for u8 {
+    ghost nought = { 0 };
+
+    ghost default_is_nought = { λ x e. e };
+}
+
+impl Number for u16 {
+    ghost nought = { 0 };
+
+    ghost default_is_nought = { λ x e. e };
+}
+
+impl Number for u32 {
+    ghost nought = { 0 };
+
+    ghost default_is_nought = { λ x e. e };
+}
+
+// Entry i of a list of numbers, and 0 past its end.
+// Rules out: the first entry whatever i is `first_entry_for_any`; anything but 0 past the end.
+pub fn entry<T: Number>(list: &[T], i: usize) -> T
+    ensures { result ≡ get_or list.now i T.nought }
 {
-    bytes[at]
+    list.get(i).copied().unwrap_or_default()
 }
 
 // The two bytes at a place as one number, the first the higher, where both are before the end.
@@ -31,9 +47,7 @@ pub fn two_within(bytes: &[u8], at: usize) -> u16
     requires { at + 1 < length bytes.now }
     ensures { result ≡ two bytes.now at }
 {
-    let high = within(bytes, at) as u16;
-    let low = within(bytes, at + 1) as u16;
-    256 * high + low
+    u16::from_be_bytes([bytes[at], bytes[at + 1]])
 }
 
 // The same at any place. One test does for both bytes where the slice reaches that far.
@@ -43,23 +57,8 @@ pub fn two(bytes: &[u8], at: usize) -> u16
     ensures { result ≡ two bytes.now at }
 {
     if at + 1 < bytes.len() {
-        return two_within(bytes, at);
+        two_within(bytes, at)
+    } else {
+        u16::from_be_bytes([entry(bytes, at), 0])
     }
-    256 * (byte(bytes, at) as u16)
-}
-
-// Entry i of a list of numbers of 16 bits, and 0 past its end.
-// Rules out: the entry after; anything but 0 past the end.
-pub fn entry(list: &[u16], i: usize) -> u16
-    ensures { result ≡ get_or list.now i 0 }
-{
-    if i < list.len() { list[i] } else { 0 }
-}
-
-// Entry i of a list of words, and 0 past its end.
-// Rules out: the entry after; anything but 0 past the end of the list.
-pub fn word(list: &[u32], i: usize) -> u32
-    ensures { result ≡ get_or list.now i 0 }
-{
-    if i < list.len() { list[i] } else { 0 }
 }

@@ -1,72 +1,47 @@
 // Stores: each promises the slice with these bytes from `at` on, as far as it reaches; `copy` the slice with all of another at its front.
-ghost use Rattle.std.specs.Prelude.{◌≡◌, [], ◌∷◌, ◌++◌, ◌+◌, ◌≤◌, ◌<◌, length, drop};
+ghost use Rattle.std.specs.Prelude.{◌≡◌, ◌++◌, ◌+◌, ◌^◌, ◌≤◌, ◌<◌, length, drop};
 ghost use Rattle.rules.specs.File.{bytes2};
 ghost use Rattle.slices.specs.Stores.{put};
 
-// One byte.
-// Rules out: the byte after altered too; the last byte overwritten where the place is past the end.
-pub fn byte(bytes: &mut [u8], at: usize, x: u8)
-    ensures { bytes.new ≡ put bytes.old at (x ∷ []) }
+// Bytes at a place where all of them are before the end.
+// Rules out: the first in every place `first_byte_stored_twice`; the byte before altered.
+pub fn within<const N: usize>(to: &mut [u8], at: usize, new: [u8; N])
+    requires { at + N ≤ length to.old }
+    ensures { to.new ≡ put to.old at new.entry }
 {
-    if at < bytes.len() {
-        bytes[at] = x;
-    }
+    to[at..at + N].copy_from_slice(&new);
 }
 
-// Two bytes at a place where both are before the end.
-// Rules out: the first in the place of the second `first_byte_stored_twice`; the byte before altered.
-pub fn pair(bytes: &mut [u8], at: usize, x: u8, y: u8)
-    requires { at + 1 < length bytes.old }
-    ensures { bytes.new ≡ put bytes.old at (x ∷ y ∷ []) }
+// Bytes at any place. One test does for all where the slice reaches that far.
+// Rules out: the bytes in another order; the last byte overwritten where the place is past the end.
+pub fn bytes<const N: usize>(to: &mut [u8], at: usize, new: [u8; N])
+    requires { at + N < 2 ^ 64 }
+    ensures { to.new ≡ put to.old at new.entry }
 {
-    bytes[at] = x;
-    bytes[at + 1] = y;
-}
-
-// Two bytes. One test does for both where the slice reaches that far.
-// Rules out: the two bytes exchanged; the second stored over the first.
-pub fn two(bytes: &mut [u8], at: usize, x: u8, y: u8)
-    requires { at < 4294967296 }
-    ensures { bytes.new ≡ put bytes.old at (x ∷ y ∷ []) }
-{
-    if at + 1 < bytes.len() {
-        pair(bytes, at, x, y);
-    } else {
-        byte(bytes, at, x);
-    }
-}
-
-// Four bytes, likewise.
-// Rules out: the last two before the first two; a fifth byte altered.
-pub fn four(bytes: &mut [u8], at: usize, w: u8, x: u8, y: u8, z: u8)
-    requires { at < 2147483648 }
-    ensures { bytes.new ≡ put bytes.old at (w ∷ x ∷ y ∷ z ∷ []) }
-{
-    if at + 3 < bytes.len() {
-        pair(bytes, at, w, x);
-        pair(bytes, at + 2, y, z);
-    } else {
-        two(bytes, at, w, x);
-        two(bytes, at + 2, y, z);
+    if at + N <= to.len() {
+        within(to, at, new);
+    } else if at < to.len() {
+        let long = to.len() - at;
+        to[at..].copy_from_slice(&new[..long]);
     }
 }
 
 // A number as two bytes, the higher first, at a place where both are before the end.
 // Rules out: the lower byte first `lower_byte_first`; the byte before altered.
-pub fn number_within(bytes: &mut [u8], at: usize, w: u16)
-    requires { at + 1 < length bytes.old }
-    ensures { bytes.new ≡ put bytes.old at (bytes2 w) }
+pub fn number_within(to: &mut [u8], at: usize, w: u16)
+    requires { at + 1 < length to.old }
+    ensures { to.new ≡ put to.old at (bytes2 w) }
 {
-    pair(bytes, at, (w / 256) as u8, (w % 256) as u8);
+    within(to, at, w.to_be_bytes());
 }
 
 // The same at any place.
 // Rules out: the lower byte first `weight_bytes_swapped`; a third byte altered.
-pub fn number(bytes: &mut [u8], at: usize, w: u16)
+pub fn number(to: &mut [u8], at: usize, w: u16)
     requires { at < 4294967296 }
-    ensures { bytes.new ≡ put bytes.old at (bytes2 w) }
+    ensures { to.new ≡ put to.old at (bytes2 w) }
 {
-    two(bytes, at, (w / 256) as u8, (w % 256) as u8);
+    bytes(to, at, w.to_be_bytes());
 }
 
 // All of `from` at the front of `to`; its length.

@@ -10,7 +10,7 @@ ghost use Rattle.rules.specs.Report.{digits, decimal, signed};
 ghost use Rattle.text.specs.Text.{Wrote, with_sign, field, number_room, signed_room, field_room, label_room, labelled_room};
 
 use rules::Kind;
-use slices::{byte, store};
+use slices::{entry, store};
 
 // One byte.
 // Rules out: the same place given back, not the one after; the last byte overwritten where its own place is past the end.
@@ -18,7 +18,7 @@ pub fn put(text: &mut [u8], at: usize, x: u8) -> usize
     requires { at < 4294967296 }
     ensures { Wrote text.old at (x ∷ []) 1 result text.new }
 {
-    store::byte(text, at, x);
+    store::bytes(text, at, [x]);
     at + 1
 }
 
@@ -32,7 +32,7 @@ pub fn copy(text: &mut [u8], start: usize, bytes: &[u8]) -> usize
     let mut at = start;
     let mut i = 0;
     while i < long {
-        at = put(text, at, byte(bytes, i));
+        at = put(text, at, entry(bytes, i));
         i += 1;
     }
     at

@@ -13,7 +13,7 @@ ghost use Rattle.topologyrules.specs.Entered.{entered};
 ghost use Rattle.topologyrules.specs.Topology.{backbone_word, reached_word, connected_by, all_served, number_by};
 
 use rules::{Network, Rule, need};
-use slices::word;
+use slices::entry;
 use words::{adding, both, either, firsts, lowest, minus, only, removing, size};
 
 // ---- a topology, by words
@@ -40,7 +40,7 @@ fn joined(nb: &[u32], bb: u32, root: u8) -> bool
             return true;
         }
         let v = lowest(waiting);
-        let found = both(word(nb, v as usize), left);
+        let found = both(entry(nb, v as usize), left);
         left = minus(left, found);
         waiting = either(removing(waiting, v), found);
     }
@@ -63,7 +63,7 @@ pub fn connected(nb: &[u32], bb: u32) -> bool
 fn served(nb: &[u32], bb: u32, v: u8) -> bool
     ensures { result ≡ leb 2 (ones (both (get_or nb.now v 0) bb)) }
 {
-    size(both(word(nb, v as usize), bb)) >= 2
+    size(both(entry(nb, v as usize), bb)) >= 2
 }
 
 // Each isolated node has two neighbours in the backbone.

@@ -1,5 +1,5 @@
 // The words among the arguments.
-use slices::byte;
+use slices::entry;
 use std::env::Env;
 
 fn same(text: &[u8], word: &[u8]) -> bool {
@@ -9,7 +9,7 @@ fn same(text: &[u8], word: &[u8]) -> bool {
     }
     let mut i: usize = 0;
     while i < long {
-        if byte(text, i) != byte(word, i) {
+        if entry(text, i) != entry(word, i) {
             return false;
         }
         i += 1;

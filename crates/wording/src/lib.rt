@@ -8,7 +8,7 @@ pub mod change; // change.rt: the changes that a case makes to its file
 
 ghost use Rattle.std.specs.Prelude.{◌≤◌};
 
-pub use slices::byte;
+pub use slices::entry;
 use std::num::wrapping_add_usize;
 
 // Stands for what is no number from 0 to 65535.
@@ -36,7 +36,7 @@ fn place(text: &[u8], mark: u8, i: usize) -> usize {
     let mut left = i;
     let mut at = 0;
     while at < text.len() {
-        if byte(text, at) == mark {
+        if entry(text, at) == mark {
             if left == 0 {
                 return at;
             }
@@ -67,7 +67,7 @@ fn letters(text: &[u8]) -> u64 {
     let mut sum: u64 = 0;
     let mut i = 0;
     while i < text.len() {
-        sum = (sum << 8) | byte(text, i) as u64;
+        sum = (sum << 8) | entry(text, i) as u64;
         i += 1;
     }
     sum

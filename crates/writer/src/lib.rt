@@ -15,6 +15,7 @@ ghost use Rattle.rules.specs.Entries.Write.{set_with, write_entry};
 ghost use Rattle.writer.specs.Parts.{given_verdict, laid_verdict, Copied};
 
 use intake::take_in;
+use layout::Lists;
 use needs::{need_lists, need_room, refuse, then};
 use rules::{LengthAnswer, Network, Verdict};
 
@@ -61,7 +62,14 @@ fn laid(
     requires { length room.old ≡ file_length net }
     ensures { Copied (encode (set_with net (lists a.now b.now weights.now homes.now rows.now))) file.old result file.new }
 {
-    laying::set(room, net, a, b, weights, homes, rows);
+    let lists = Lists {
+        a,
+        b,
+        weights,
+        homes,
+        rows,
+    };
+    laying::set(room, net, lists);
     copied(room, file)
 }
 

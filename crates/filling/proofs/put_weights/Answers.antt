@@ -2,8 +2,8 @@ use Rattle.filling.proofs.Stored.{a_below, b_below, place_inside, weight_filled,
 use Rattle.slices.proofs.Stores.{storing_done, storing_none}
 use Rattle.filling.proofs.put_weights.Goals as goal
 
-pub loop-x-init : goal.loop-x-init
-loop-x-init c = search storing_none
+pub loop-l-init : goal.loop-l-init
+loop-l-init c = search storing_none
 
 pub weight_in-w-requires-clause-l_in_bounds : goal.weight_in-w-requires-clause-l_in_bounds
 weight_in-w-requires-clause-l_in_bounds c = search place_inside
@@ -14,8 +14,8 @@ weight_in-w-requires-clause-l_in_bounds_2 c = (search a_below, search b_below)
 pub number_within-requires : goal.number_within-requires
 number_within-requires c = search weight_inside
 
-pub loop-x-preserved : goal.loop-x-preserved
-loop-x-preserved c = search weight_filled
+pub loop-l-preserved : goal.loop-l-preserved
+loop-l-preserved c = search weight_filled
 
 pub returns : goal.returns
 returns c = search storing_done

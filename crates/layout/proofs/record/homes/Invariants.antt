@@ -1,4 +1,3 @@
-use Prim.Native.Nat.{◌-◌}
 use Rattle.rules.specs.Limits.{home_place}
 use Rattle.slices.proofs.Stores.{Storing}
 use Rattle.layout.specs.Records.{home_of}
@@ -6,6 +5,3 @@ use Rattle.layout.proofs.record.homes.Given as goal
 
 abbrev pub invariant-loop-v : goal.invariant-loop-v
 invariant-loop-v l = Storing l.initial.file l.file (home_place l.net 0) (home_of l.homes) l.v l.count
-
-abbrev pub decreases-loop-v : goal.decreases-loop-v
-decreases-loop-v l = l.count - l.v

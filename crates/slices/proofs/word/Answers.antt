@@ -1,5 +1,0 @@
-use Rattle.rules.proofs.Ground.Rows.{past}
-use Rattle.slices.proofs.word.Goals as goal
-
-pub returns-else-i-list : goal.returns-else-i-list
-returns-else-i-list c = search past
