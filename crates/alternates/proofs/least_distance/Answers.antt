@@ -1,12 +1,12 @@
-use borrow.Author.Rules.{rules}
-use Rattle.alternates.proofs.Neighbours.{least_done, least_more, least_none}
+use Rattle.alternates.proofs.Neighbours.{least_done, least_more, least_none, least_same}
 use Rattle.alternates.proofs.least_distance.Goals as goal
+use Rattle.alternates.proofs.least_distance.Goals.{then-stands_in, else-stands_in}
 
 pub loop-w-init : goal.loop-w-init
-loop-w-init c = (search rules, search least_none)
+loop-w-init c = search least_none
 
 pub loop-w-preserved : goal.loop-w-preserved
-loop-w-preserved c = (search rules, search least_more)
+loop-w-preserved c = elim c.if-stands_in.branch [ then-stands_in w ↦ search least_more | else-stands_in w ↦ search least_same ]
 
 pub returns : goal.returns
 returns c = search least_done
