@@ -3,7 +3,6 @@ use Prim.Native.Nat.{ℕ, ◌+◌, ◌≤◌, ◌<◌, min}
 use native.Mathlib.Numerals.{add-one}
 use lib.Bits.{or_zero_r}
 use Rattle.std.proofs.lemmas.List.{set-get_or}
-use borrow.Author.Count.{below_more}
 use native.Mathlib.Omega.{arith}
 use mathlib.Core.Path.{◌≡◌, refl, sym, ap, subst, ◌∙◌}
 use mathlib.Core.Bool.{Bool, true, false, ◌&&◌, ◌||◌}
@@ -18,7 +17,7 @@ use Rattle.rules.specs.Distance.{far}
 use Rattle.rules.proofs.Ground.Choices.{if_yes, if_no}
 use Rattle.routes.proofs.Lanes.{same?, column_at}
 use Rattle.words.specs.Word.{either, lowest_in, only}
-use Rattle.alternates.specs.Alternates.{noted, noted_link, outlets_by, eligible, least_of, near_bit, near_word, alternate_by, alternate_of, Homed, RowOf, RowsTo}
+use Rattle.alternates.specs.Alternates.{noted, noted_link, outlets_by, eligible, least_of, near_bit, near_word, alternate_by, alternate_of, Homed, RowBy, RowOf, RowsTo}
 
 -- ---- `note_link`
 pub link_same : (u x y p q : ℕ) (near : List Bool) → p ≡ q → near ≡ noted_link u x y p q near
@@ -127,19 +126,27 @@ module _ (near : List Bool) (d : List (List ℕ)) (v : ℕ) where
   unfolding alternate_by
   no_alternate e = sym (if_no (get_or near v false) (lowest_in (near_word near d v (least_of near d v (length d)) (length d))) 255 e)
 
--- ---- `alternates_of`
-pub row_none : (near : List Bool) (d : List (List ℕ)) (r : List ℕ) → (v : ℕ) → v < 0 → get_or r v 0 ≡ alternate_by near d (length d) v
-row_none near d r v h = absurd (omega arith)
+-- ---- `row`
+pub row_none : (near : List Bool) (d : List (List ℕ)) (r : List ℕ) → RowBy near d r 0
+row_none near d r = record { is = λ v h. absurd (omega arith) }
 
-pub row_more : (near : List Bool) (d : List (List ℕ)) (r : List ℕ) (v s t : ℕ) → ((w : ℕ) → w < v → get_or r w 0 ≡ alternate_by near d (length d) w) → s ≡ t → t ≡ alternate_by near d (length d) v → v < length d
-    → length d ≤ 32 → length r ≡ 32 → (w : ℕ) → w < v + 1 → get_or (set r v s) w 0 ≡ alternate_by near d (length d) w
+pub row_more : (near : List Bool) (d : List (List ℕ)) (r : List ℕ) (v s t : ℕ) → RowBy near d r v → s ≡ t → t ≡ alternate_by near d (length d) v → v < length d → length d ≤ 32 → length r ≡ 32
+    → RowBy near d (set r v s) (v + 1)
 row_more near d r v s t R q e h few long =
-    below_more (λ w. get_or (set r v s) w 0 ≡ alternate_by near d (length d) w) v (λ w g. get_or-set_other r v w s 0 (λ z. omega arith) ∙ R w g) (get_or-set_same r v s 0 (omega arith) ∙ q ∙ e)
+    record {
+      is = λ w g.
+          ⊎_elim (λ (z : w ≡ v). rw z (get_or-set_same r v s 0 (omega arith) ∙ q ∙ e))
+          (λ (ne : w ≡ v → ⊥). get_or-set_other r v w s 0 ne ∙ R.is w (omega arith))
+          (same? w v);
+    }
 
-pub row_of : (a b homes : List ℕ) (d : List (List ℕ)) (u v : ℕ) (near : List Bool) (r : List ℕ) → near ≡ outlets_by a b homes u (length a) → ((w : ℕ) → w < v → get_or r w 0 ≡ alternate_by near d (length d) w)
-    → length d ≤ v → RowOf a b homes d u r
+pub row_done : (near : List Bool) (d : List (List ℕ)) (r : List ℕ) (v : ℕ) → RowBy near d r v → length d ≤ v → RowBy near d r (length d)
+row_done near d r v R h = record { is = λ w g. R.is w (omega arith) }
+
+-- ---- `alternates_of`
+pub row_of : (a b homes : List ℕ) (d : List (List ℕ)) (u : ℕ) (near : List Bool) (r : List ℕ) → near ≡ outlets_by a b homes u (length a) → RowBy near d r (length d) → RowOf a b homes d u r
 unfolding alternate_of
-row_of a b homes d u v near r e R h = record { is = λ w g. R w (omega arith) ∙ rw e }
+row_of a b homes d u near r e R = record { is = λ v h. R.is v h ∙ rw e }
 
 -- ---- `fill`
 module _ (a b homes : List ℕ) (i : ℕ) (d alts : List (List ℕ)) where

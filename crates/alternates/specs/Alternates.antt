@@ -55,6 +55,10 @@ pub record Homed (a b homes : List ℕ) (n : ℕ) : Type 0 where
   pub a_in : (l : ℕ) → l < length a → get_or a l 0 < n
   pub b_in : (l : ℕ) → l < length a → get_or b l 0 < n
 
+-- the alternates of a node by the flags of its neighbours
+pub record RowBy (near : List Bool) (d : List (List ℕ)) (r : List ℕ) (n : ℕ) : Type 0 where
+  pub is : (v : ℕ) → v < n → get_or r v 0 ≡ alternate_by near d (length d) v
+
 -- the alternates of node u
 pub record RowOf (a b homes : List ℕ) (d : List (List ℕ)) (u : ℕ) (r : List ℕ) : Type 0 where
   pub is : (v : ℕ) → v < length d → get_or r v 0 ≡ alternate_of a b homes d u v

@@ -5,7 +5,7 @@
 
 ghost use Rattle.std.specs.Prelude.{◌≡◌, false, ◌≤◌, ◌<◌, length};
 ghost use Rattle.std.specs.Option.{unwrap_or};
-ghost use Rattle.alternates.specs.Alternates.{noted_link, outlets_by, eligible, least_of, near_word, alternate_by, Homed, RowOf, RowsTo};
+ghost use Rattle.alternates.specs.Alternates.{noted_link, outlets_by, eligible, least_of, near_word, alternate_by, Homed, RowBy, RowOf, RowsTo};
 
 use routes::{Ends, FAR};
 use rules::Network;
@@ -26,64 +26,76 @@ fn note_link(near: &mut [bool; Network::MOST_NODES], u: usize, x: usize, y: usiz
     near[x] |= y == u;
 }
 
-// Whether w may stand in for v.
-fn stands_in(near: &[bool; Network::MOST_NODES], v: usize, w: usize) -> bool
-    requires { w < 32 }
-    ensures { result ≡ eligible near.now v w }
-{
-    if w == v {
-        return false;
-    }
-    near[w]
+// The neighbours of a node that have another home than it, as flags, and the distances d of its home topology.
+#[derive(Clone, Copy)]
+struct Outlets<'a> {
+    near: &'a [bool; Network::MOST_NODES],
+    d: &'a [[u32; Network::LANES]],
+    ghost few: { length d.now ≤ 32 },
 }
 
-// The least distance to v of the nodes that may stand in for it.
-fn least_distance(near: &[bool; Network::MOST_NODES], d: &[[u32; Network::LANES]], v: usize) -> u32
-    requires { (length d.now ≤ 32) × (v < 32) }
-    ensures { result ≡ least_of near.now d.now v (length d.now) }
-{
-    let mut best = FAR;
-    for (w, row) in d.iter().enumerate() {
-        if stands_in(near, v, w) {
-            best = best.min(row[v]);
+impl Outlets<'_> {
+    // Whether w may stand in for v.
+    fn stands_in(&self, v: usize, w: usize) -> bool
+        requires { w < 32 }
+        ensures { result ≡ eligible self.now.near.now v w }
+    {
+        if w == v {
+            return false;
         }
+        self.near[w]
     }
-    best
-}
 
-// Those of them that are at the distance `best`.
-fn nearest(
-    near: &[bool; Network::MOST_NODES],
-    d: &[[u32; Network::LANES]],
-    v: usize,
-    best: u32,
-) -> u32
-    requires { (length d.now ≤ 32) × (v < 32) }
-    ensures { result ≡ near_word near.now d.now v best (length d.now) }
-{
-    let mut word = 0;
-    for (w, row) in d.iter().enumerate() {
-        if stands_in(near, v, w) && row[v] == best {
-            word = either(word, only(w as u8));
+    // The least distance to v of the nodes that may stand in for it.
+    fn least_distance(&self, v: usize) -> u32
+        requires { v < 32 }
+        ensures { result ≡ least_of self.now.near.now self.now.d.now v (length self.now.d.now) }
+    {
+        let mut best = FAR;
+        for (w, row) in self.d.iter().enumerate() {
+            if self.stands_in(v, w) {
+                best = best.min(row[v]);
+            }
         }
+        best
     }
-    word
-}
 
-// The alternate for v of a node whose neighbours with another home are `near`, by the distances d of its home topology.
-fn alternate(
-    near: &[bool; Network::MOST_NODES],
-    d: &[[u32; Network::LANES]],
-    v: usize,
-) -> Option<u8>
-    requires { (length d.now ≤ 32) × (v < 32) }
-    ensures { unwrap_or result 255 ≡ alternate_by near.now d.now (length d.now) v }
-{
-    if !near[v] {
-        return None;
+    // Those of them that are at the distance `best`.
+    fn nearest(&self, v: usize, best: u32) -> u32
+        requires { v < 32 }
+        ensures { result ≡ near_word self.now.near.now self.now.d.now v best (length self.now.d.now) }
+    {
+        let mut word = 0;
+        for (w, row) in self.d.iter().enumerate() {
+            if self.stands_in(v, w) && row[v] == best {
+                word = either(word, only(w as u8));
+            }
+        }
+        word
     }
-    let best = least_distance(near, d, v);
-    Some(lowest(nearest(near, d, v, best)))
+
+    // The alternate for v.
+    fn alternate(&self, v: usize) -> Option<u8>
+        requires { v < 32 }
+        ensures { unwrap_or result 255 ≡ alternate_by self.now.near.now self.now.d.now (length self.now.d.now) v }
+    {
+        if !self.near[v] {
+            return None;
+        }
+        let best = self.least_distance(v);
+        Some(lowest(self.nearest(v, best)))
+    }
+
+    // The alternates for all nodes.
+    fn row(&self) -> [u8; Network::MOST_NODES]
+        ensures { RowBy self.now.near.now self.now.d.now result (length self.now.d.now) }
+    {
+        let mut row = [NONE; Network::MOST_NODES];
+        for v in 0..self.d.len() {
+            row[v] = self.alternate(v).unwrap_or(NONE);
+        }
+        row
+    }
 }
 
 // The links of a set, and the homes of its nodes.
@@ -114,11 +126,7 @@ impl Homes<'_> {
         ensures { RowOf self.now.ends.a.now self.now.ends.b.now self.now.homes.now d.now u result }
     {
         let near = self.outlets(u);
-        let mut row = [NONE; Network::MOST_NODES];
-        for v in 0..d.len() {
-            row[v] = alternate(&near, d, v).unwrap_or(NONE);
-        }
-        row
+        Outlets { near: &near, d }.row()
     }
 }
 

@@ -1,6 +1,6 @@
 use Rattle.alternates.proofs.Neighbours.{least_done, least_more, least_none, least_same}
-use Rattle.alternates.proofs.least_distance.Goals as goal
-use Rattle.alternates.proofs.least_distance.Goals.{then-stands_in, else-stands_in}
+use Rattle.alternates.proofs.Outlets.least_distance.Goals as goal
+use Rattle.alternates.proofs.Outlets.least_distance.Goals.{then-stands_in, else-stands_in}
 
 pub loop-w-init : goal.loop-w-init
 loop-w-init c = search least_none

@@ -1,6 +1,6 @@
 use Rattle.alternates.proofs.Neighbours.{word_done, word_far, word_more, word_none, word_same}
-use Rattle.alternates.proofs.nearest.Goals as goal
-use Rattle.alternates.proofs.nearest.Goals.{then-stands_in+then-row-v, else-stands_in, else-stands_in-via-then-stands_in+else-row-v, else-stands_in-via-else-stands_in}
+use Rattle.alternates.proofs.Outlets.nearest.Goals as goal
+use Rattle.alternates.proofs.Outlets.nearest.Goals.{then-stands_in+then-row-v, else-stands_in, else-stands_in-via-then-stands_in+else-row-v, else-stands_in-via-else-stands_in}
 
 pub loop-w-init : goal.loop-w-init
 loop-w-init c = search word_none

@@ -1,6 +1,0 @@
-use Rattle.alternates.specs.Alternates.{near_word}
-use mathlib.Core.Path.{◌≡◌}
-use Rattle.alternates.proofs.nearest.Given as goal
-
-abbrev pub invariant-loop-w : goal.invariant-loop-w
-invariant-loop-w l = l.word ≡ near_word l.near l.d l.v l.best l.w
