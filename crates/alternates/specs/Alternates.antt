@@ -1,5 +1,5 @@
 -- Alternates as the code finds them: flags of the neighbours with another home, the least distance of those, and the word of the nearest.
-use Rattle.std.specs.Prelude.{ℕ, zero, suc, ◌≤◌, ◌<◌, min, ◌≡◌, Bool, false, not, ◌&&◌, ◌||◌, List, [], length, get_or, set, replicate, eqb, if◌then◌else◌}
+use Rattle.std.specs.Prelude.{ℕ, zero, suc, ◌≤◌, ◌<◌, ◌≡◌, Bool, false, not, ◌&&◌, ◌||◌, List, [], length, get_or, set, replicate, eqb, if◌then◌else◌}
 use Rattle.rules.specs.Basics.{least}
 use Rattle.rules.specs.Distance.{far}
 use Rattle.routes.specs.Lanes.{column}
@@ -25,9 +25,6 @@ outlets_by a b homes u (suc k) =
 
 unfoldable pub eligible : List Bool → ℕ → ℕ → Bool
 eligible near v w = get_or near w false && not (eqb w v)
-
-unfoldable pub lesser_of : Bool → ℕ → ℕ → ℕ
-lesser_of ok key best = if ok then min key best else best
 
 -- the least distance of the nodes below k
 unfoldable pub least_of : List Bool → List (List ℕ) → ℕ → ℕ → ℕ
@@ -66,14 +63,7 @@ pub record RowBy (near : List Bool) (d : List (List ℕ)) (r : List ℕ) (n : �
 pub record RowOf (a b homes : List ℕ) (d : List (List ℕ)) (u : ℕ) (r : List ℕ) : Type 0 where
   pub is : (v : ℕ) → v < length d → get_or r v 0 ≡ alternate_of a b homes d u v
 
--- row u of e is the alternates of u where its home is i; all else is as in alts
-pub record RowAt (a b homes : List ℕ) (i : ℕ) (d : List (List ℕ)) (u : ℕ) (alts e : List (List ℕ)) : Type 0 where
-  pub long : length e ≡ length alts
-  pub done : get_or homes u 0 ≡ i → RowOf a b homes d u (get_or e u [])
-  pub kept : (x : ℕ) → (x ≡ u → ⊥) → get_or e x [] ≡ get_or alts x []
-  pub still : (get_or homes u 0 ≡ i → ⊥) → e ≡ alts
-
--- the same for the nodes below k
+-- the rows of the nodes below k whose home is i are their alternates in e; all else is as in alts
 pub record RowsTo (a b homes : List ℕ) (i : ℕ) (d : List (List ℕ)) (k : ℕ) (alts e : List (List ℕ)) : Type 0 where
   pub long : length e ≡ length alts
   pub done : (u : ℕ) → u < k → get_or homes u 0 ≡ i → RowOf a b homes d u (get_or e u [])

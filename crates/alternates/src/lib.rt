@@ -3,36 +3,18 @@
 // and distances; that this is what 01 asks of an accepted set is shown in proofs/.
 #![tactic(auto)]
 
-ghost use Rattle.std.specs.Prelude.{◌≡◌, false, ◌||◌, eqb, ◌≤◌, ◌<◌, length, get_or, replicate};
-ghost use Rattle.routes.specs.Lanes.{column};
-ghost use Rattle.alternates.specs.Alternates.{noted, noted_link, outlets_by, eligible, lesser_of, least_of, near_bit, near_word, alternate_by, Homed, RowBy, RowOf, RowAt, RowsTo};
+ghost use Rattle.std.specs.Prelude.{◌≡◌, false, ◌≤◌, ◌<◌, length};
+ghost use Rattle.std.specs.Option.{unwrap_or};
+ghost use Rattle.alternates.specs.Alternates.{noted_link, outlets_by, eligible, least_of, near_word, alternate_by, Homed, RowBy, RowOf, RowsTo};
 
+use routes::{Ends, FAR};
 use rules::Network;
 use words::{either, lowest, only};
 
-// What stands for "no path".
-const FAR: u32 = 1073741824;
-
-// No alternate.
+// What the tables hold where there is no alternate.
 const NONE: u8 = 255;
 
-// Whether y is a neighbour of u: it was known, or its link's other end x is u.
-fn flag(was: bool, x: usize, u: usize) -> bool
-    ensures { result ≡ (was || eqb x u) }
-{
-    if x == u {
-        return true;
-    }
-    was
-}
-
-fn note(near: &mut [bool; Network::MOST_NODES], u: usize, x: usize, y: usize)
-    requires { y < 32 }
-    ensures { near.new ≡ noted u x y near.old }
-{
-    near[y] = flag(near[y], x, u);
-}
-
+// Over a link between x and y, whose homes are p and q: where these differ, each is noted if the other is u.
 fn note_link(near: &mut [bool; Network::MOST_NODES], u: usize, x: usize, y: usize, p: u8, q: u8)
     requires { (x < 32) × (y < 32) }
     ensures { near.new ≡ noted_link u x y p q near.old }
@@ -40,176 +22,111 @@ fn note_link(near: &mut [bool; Network::MOST_NODES], u: usize, x: usize, y: usiz
     if p == q {
         return;
     }
-    note(near, u, x, y);
-    note(near, u, y, x);
+    near[y] |= x == u;
+    near[x] |= y == u;
 }
 
-// The neighbours of u that have another home than u.
-fn outlets(a: &[u8], b: &[u8], homes: &[u8], u: usize, near: &mut [bool; Network::MOST_NODES])
-    requires homed { Homed a.now b.now homes.now (length homes.now) }
-    requires near_value { near.old ≡ replicate 32 false }
-    ensures { near.new ≡ outlets_by a.now b.now homes.now u (length a.now) }
-{
-    let mut l = 0;
-    while l < a.len() {
-        let x = routes::wide(routes::end(a, l));
-        let y = routes::wide(routes::end(b, l));
-        let p = routes::end(homes, x);
-        let q = routes::end(homes, y);
-        note_link(near, u, x, y, p, q);
-        l += 1;
-    }
+// The neighbours of a node that have another home than it, as flags, and the distances d of its home topology.
+#[derive(Clone, Copy)]
+struct Outlets<'a> {
+    near: &'a [bool; Network::MOST_NODES],
+    d: &'a [[u32; Network::LANES]],
+    ghost few: { length d.now ≤ 32 },
 }
 
-// Whether w may stand in for v.
-fn stands_in(near: &[bool; Network::MOST_NODES], v: usize, w: usize) -> bool
-    requires { w < 32 }
-    ensures { result ≡ eligible near.now v w }
-{
-    if w == v {
-        return false;
-    }
-    near[w]
-}
-
-fn lane(r: &[u32; Network::LANES], v: usize) -> u32
-    requires { v < 32 }
-    ensures { result ≡ get_or r.now v 0 }
-{
-    r[v]
-}
-
-fn distance_at(d: &[[u32; Network::LANES]], w: usize, v: usize) -> u32
-    requires { (w < length d.now) × (v < 32) }
-    ensures { result ≡ get_or (column v d.now) w 0 }
-{
-    lane(&d[w], v)
-}
-
-fn lesser_of(ok: bool, key: u32, best: u32) -> u32
-    ensures { result ≡ lesser_of ok key best }
-{
-    if ok {
-        if key < best {
-            return key;
+impl Outlets<'_> {
+    // Whether w may stand in for v.
+    fn stands_in(&self, v: usize, w: usize) -> bool
+        requires { w < 32 }
+        ensures { result ≡ eligible self.now.near.now v w }
+    {
+        if w == v {
+            return false;
         }
+        self.near[w]
     }
-    best
-}
 
-// The least distance to v of the nodes that may stand in for it.
-fn least_distance(near: &[bool; Network::MOST_NODES], d: &[[u32; Network::LANES]], v: usize) -> u32
-    requires { (length d.now ≤ 32) × (v < 32) }
-    ensures { result ≡ least_of near.now d.now v (length d.now) }
-{
-    let mut best = FAR;
-    let mut w: usize = 0;
-    while w < d.len() {
-        let ok = stands_in(near, v, w);
-        let key = distance_at(d, w, v);
-        best = lesser_of(ok, key, best);
-        w += 1;
-    }
-    best
-}
-
-fn near_bit(ok: bool, key: u32, best: u32, w: usize) -> u32
-    requires { w < 32 }
-    ensures { result ≡ near_bit ok key best w }
-{
-    if ok {
-        if key == best {
-            return only(w as u8);
+    // The least distance to v of the nodes that may stand in for it.
+    fn least_distance(&self, v: usize) -> u32
+        requires { v < 32 }
+        ensures { result ≡ least_of self.now.near.now self.now.d.now v (length self.now.d.now) }
+    {
+        let mut best = FAR;
+        for (w, row) in self.d.iter().enumerate() {
+            if self.stands_in(v, w) {
+                best = best.min(row[v]);
+            }
         }
+        best
     }
-    0
-}
 
-// Those of them that are at the distance `best`.
-fn nearest(
-    near: &[bool; Network::MOST_NODES],
-    d: &[[u32; Network::LANES]],
-    v: usize,
-    best: u32,
-) -> u32
-    requires { (length d.now ≤ 32) × (v < 32) }
-    ensures { result ≡ near_word near.now d.now v best (length d.now) }
-{
-    let mut word: u32 = 0;
-    let mut w: usize = 0;
-    while w < d.len() {
-        let ok = stands_in(near, v, w);
-        let reach = distance_at(d, w, v);
-        let bit = near_bit(ok, reach, best, w);
-        word = either(word, bit);
-        w += 1;
+    // Those of them that are at the distance `best`.
+    fn nearest(&self, v: usize, best: u32) -> u32
+        requires { v < 32 }
+        ensures { result ≡ near_word self.now.near.now self.now.d.now v best (length self.now.d.now) }
+    {
+        let mut word = 0;
+        for (w, row) in self.d.iter().enumerate() {
+            if self.stands_in(v, w) && row[v] == best {
+                word = either(word, only(w as u8));
+            }
+        }
+        word
     }
-    word
-}
 
-// The alternate for v of a node whose neighbours with another home are `near`, by the distances d of its home topology.
-fn alternate(near: &[bool; Network::MOST_NODES], d: &[[u32; Network::LANES]], v: usize) -> u8
-    requires { (length d.now ≤ 32) × (v < 32) }
-    ensures { result ≡ alternate_by near.now d.now (length d.now) v }
-{
-    if near[v] {
-        let best = least_distance(near, d, v);
-        return lowest(nearest(near, d, v, best));
+    // The alternate for v.
+    fn alternate(&self, v: usize) -> Option<u8>
+        requires { v < 32 }
+        ensures { unwrap_or result 255 ≡ alternate_by self.now.near.now self.now.d.now (length self.now.d.now) v }
+    {
+        if !self.near[v] {
+            return None;
+        }
+        let best = self.least_distance(v);
+        Some(lowest(self.nearest(v, best)))
     }
-    NONE
-}
 
-fn alternate_row(
-    near: &[bool; Network::MOST_NODES],
-    d: &[[u32; Network::LANES]],
-    r: &mut [u8; Network::MOST_NODES],
-)
-    requires { (length d.now ≤ 32) × (length r.old ≡ 32) }
-    ensures { RowBy near.now d.now r.new (length d.now) }
-{
-    let mut v: usize = 0;
-    while v < d.len() {
-        r[v] = alternate(near, d, v);
-        v += 1;
+    // The alternates for all nodes.
+    fn row(&self) -> [u8; Network::MOST_NODES]
+        ensures { RowBy self.now.near.now self.now.d.now result (length self.now.d.now) }
+    {
+        let mut row = [NONE; Network::MOST_NODES];
+        for v in 0..self.d.len() {
+            row[v] = self.alternate(v).unwrap_or(NONE);
+        }
+        row
     }
 }
 
-// The alternates of node u, by the distances d of its home topology.
-fn alternates_of(
-    a: &[u8],
-    b: &[u8],
-    homes: &[u8],
-    d: &[[u32; Network::LANES]],
-    u: usize,
-) -> [u8; Network::MOST_NODES]
-    requires homed { Homed a.now b.now homes.now (length homes.now) }
-    requires d_len_bound { length d.now ≤ 32 }
-    ensures { RowOf a.now b.now homes.now d.now u result }
-{
-    let mut near = [false; Network::MOST_NODES];
-    let mut r = [NONE; Network::MOST_NODES];
-    outlets(a, b, homes, u, &mut near);
-    alternate_row(&near, d, &mut r);
-    r
+// The links of a set, and the homes of its nodes.
+#[derive(Clone, Copy)]
+struct Homes<'a> {
+    ends: Ends<'a>,
+    homes: &'a [u8],
+    ghost homed: { Homed ends.a.now ends.b.now homes.now (length homes.now) },
 }
 
-// Into row u of alts, where the home of u is i.
-fn alternates_at(
-    a: &[u8],
-    b: &[u8],
-    homes: &[u8],
-    i: u8,
-    d: &[[u32; Network::LANES]],
-    u: usize,
-    alts: &mut [[u8; Network::MOST_NODES]],
-)
-    requires homed { Homed a.now b.now homes.now (length homes.now) }
-    requires d_len_bound { (length d.now ≤ 32) × (u < length homes.now) × (u < length alts.old) }
-    ensures { RowAt a.now b.now homes.now i d.now u alts.old alts.new }
-{
-    let p = routes::end(homes, u);
-    if p == i {
-        alts[u] = alternates_of(a, b, homes, d, u);
+impl Homes<'_> {
+    // The neighbours of u that have another home than u.
+    fn outlets(&self, u: usize) -> [bool; Network::MOST_NODES]
+        ensures { result ≡ outlets_by self.now.ends.a.now self.now.ends.b.now self.now.homes.now u (length self.now.ends.a.now) }
+    {
+        let mut near = [false; Network::MOST_NODES];
+        for l in 0..self.ends.a.len() {
+            let x = self.ends.a[l] as usize;
+            let y = self.ends.b[l] as usize;
+            note_link(&mut near, u, x, y, self.homes[x], self.homes[y]);
+        }
+        near
+    }
+
+    // The alternates of node u, by the distances d of its home topology.
+    fn alternates_of(&self, d: &[[u32; Network::LANES]], u: usize) -> [u8; Network::MOST_NODES]
+        requires { length d.now ≤ 32 }
+        ensures { RowOf self.now.ends.a.now self.now.ends.b.now self.now.homes.now d.now u result }
+    {
+        let near = self.outlets(u);
+        Outlets { near: &near, d }.row()
     }
 }
 
@@ -217,20 +134,20 @@ fn alternates_at(
 // Rules out: v itself as the alternate for v `alternate_may_be_v`; the least distance taken to another node than v
 // `alternate_by_the_first_link`.
 pub fn fill(
-    a: &[u8],
-    b: &[u8],
+    ends: Ends<'_>,
     homes: &[u8],
     i: u8,
     d: &[[u32; Network::LANES]],
     alts: &mut [[u8; Network::MOST_NODES]],
 )
-    requires homed { Homed a.now b.now homes.now (length d.now) }
+    requires homed { Homed ends.a.now ends.b.now homes.now (length d.now) }
     requires alts_len { length alts.old ≡ length d.now }
-    ensures { RowsTo a.now b.now homes.now i d.now (length d.now) alts.old alts.new }
+    ensures { RowsTo ends.entry.a.now ends.entry.b.now homes.now i d.now (length d.now) alts.old alts.new }
 {
-    let mut u: usize = 0;
-    while u < d.len() {
-        alternates_at(a, b, homes, i, d, u, alts);
-        u += 1;
+    let set = Homes { ends, homes };
+    for (u, row) in alts.iter_mut().enumerate() {
+        if homes[u] == i {
+            *row = set.alternates_of(d, u);
+        }
     }
 }

@@ -1,14 +1,13 @@
 -- Laws of the whole tables, as the functions use them.
-use Prim.Native.Nat.{ℕ, ◌+◌, ◌-◌, ◌*◌, ◌≤◌, ◌<◌, zero-le}
-use native.Mathlib.Nat.{mul-le-mul, mul-le-mul_right}
+use Prim.Native.Nat.{ℕ, ◌+◌, ◌-◌, ◌*◌, ◌≤◌, ◌<◌}
+use native.Mathlib.Nat.{mul-le-mul_right}
 use native.Mathlib.Numerals.{add-one}
 use native.Mathlib.Omega.{arith}
 use mathlib.Core.Path.{◌≡◌, refl, sym, ap, ap₂, subst, ◌∙◌}
-use mathlib.Core.List.{List, [], ◌++◌, append-nil, append_assoc}
-use lib.ListN.{length, get_or, set, take, drop, length-drop, length-append}
-use lib.Seq.{drop-length, drop-drop, drop_at, take_at, length-take-le}
-use mir.Syntax.{w8, w64}
-use mir.Val.{Fits}
+use mathlib.Core.List.{List, [], ◌++◌, append-nil}
+use Rattle.std.proofs.Common.{get_or-take}
+use lib.ListN.{length, get_or, take, drop, length-drop, length-append}
+use lib.Seq.{ext_get_or, drop-length, take_at, length-take-le}
 use Rattle.rules.specs.declared.Network.{Network}
 use Rattle.rules.specs.Basics.{up_to, flat}
 use Rattle.rules.specs.Limits.{tables_length}
@@ -17,214 +16,208 @@ use Rattle.rules.specs.Distance.{next_hop, alternate, table_bytes}
 use Rattle.rules.specs.Entries.Write.{set_with}
 use Rattle.rules.specs.Sets.{AcceptedSet}
 use Rattle.routes.specs.Listed.{listed}
-use Rattle.rules.proofs.Ground.Rows.{length_up_to, up_to_ext, length_flat, flat_ext}
+use Rattle.rules.proofs.Ground.Rows.{length_up_to, get_d_up_to, up_to_ext, length_flat, flat_ext}
 use Rattle.rules.proofs.Isolation.Homes.{home_high}
-use Rattle.routes.proofs.Filling.{fill_more, fill_done, rows_more, rows_done, at_none, at_more, part_long}
-use Rattle.engine.specs.Stages.{hop_table, entry, entries_of, AlternatesBelow, Work, Added, AddedAt, AllAdded, Roomy, Stage}
-
-plus_minus : (p m : ℕ) → p + m - p ≡ m
-plus_minus p m = omega arith
+use Rattle.routes.proofs.Filling.{rows_done, at_more, part_long, start_none, start_more}
+use Rattle.engine.specs.Stages.{hop_table, entry, entries_of, AlternatesBelow, Added, AllAdded, Stage}
 
 module _ (net : Network) (a b weights homes rows : List ℕ) (A : AcceptedSet (listed net a b weights homes rows)) where
-  abbrev S : Set
-  S = listed net a b weights homes rows
-
-  -- ---- `topology_at`
-  square_few : net.n * net.n ≤ 32 * 32
+  pub few_nodes : net.n ≤ 32
   unfolding set_with
-  square_few = let h = A.rules.limits.nodes.1 in mul-le-mul h h
+  few_nodes = A.rules.limits.nodes.1
 
-  pub square_fits : Fits w64 (net.n * net.n)
-  square_fits = record { fits = omega (arith, square_few) }
-
-  pub part_square : (at : ℕ) (out : List ℕ) → at + net.n * net.n ≤ length out → length (take (at + net.n * net.n - at) (drop at out)) ≡ net.n * net.n
-  part_square at out h = part_long at (net.n * net.n) out h
-
-  pub added_at : (i at : ℕ) (out y : List ℕ) (alts : List (List ℕ)) → Added S i y alts
-      → AddedAt S i at out (take at out ++ (y ++ drop (at + net.n * net.n - at) (drop at out))) alts
+  few_links : net.m ≤ 128
   unfolding set_with
-  added_at i at out y alts D =
-      record { hops = rw (D.hops, plus_minus at (net.n * net.n), drop-drop); alternates = D.alternates }
+  few_links = A.rules.limits.links.1
 
-  table_long : (i : ℕ) → length (hop_table S i) ≡ net.n * net.n
-  unfolding set_with hop_table
-  table_long i = length_flat (λ u. up_to (next_hop S i u) net.n) net.n net.n (λ u h. length_up_to (next_hop S i u) net.n)
+  -- ---- room for the links and for the nodes
+  pub links_room : (c : List ℕ) → length c ≡ 128 → net.m ≤ length c
+  links_room c l = omega (arith, few_links)
 
-  -- ---- `topologies`
-  pub work_on : (c c₀ : List ℕ) (d w d₀ w₀ : List (List ℕ)) → Work S c₀ d₀ w₀ → length c ≡ length c₀ → length d ≡ length d₀ → length w ≡ length w₀ → Work S c d w
-  work_on c c₀ d w d₀ w₀ W x y z = record { c_long = x ∙ W.c_long; d_long = y ∙ W.d_long; w_long = z ∙ W.w_long }
+  pub links_count : (c : List ℕ) → length c ≡ 128 → net.m ≡ length (take net.m c)
+  links_count c l = sym (length-take-le net.m c (links_room c l))
 
-  pub stage_none : (out : List ℕ) (alts : List (List ℕ)) → length alts ≡ net.n → Stage S out out alts 0 0
-  unfolding set_with flat
-  stage_none out alts l =
-      record { low = zero-le; at_is = at_none (net.n * net.n); long = refl; is = refl; alternates = record { long = l; is = λ u lu h. absurd (omega arith) } }
+  pub nodes_room : (d : List (List ℕ)) → length d ≡ 32 → net.n ≤ length d
+  nodes_room d l = omega (arith, few_nodes)
 
-  module _ (out₀ out : List ℕ) (alts : List (List ℕ)) (i at : ℕ) (Q : Stage S out₀ out alts i at) where
-    pub stage_alternates : AlternatesBelow S i alts
-    stage_alternates = Q.alternates
+  pub nodes_count : (d : List (List ℕ)) → length d ≡ 32 → net.n ≡ length (take net.n d)
+  nodes_count d l = sym (length-take-le net.n d (nodes_room d l))
 
-    at_is : at ≡ i * (net.n * net.n)
-    unfolding set_with
-    at_is = Q.at_is
+  pub links_kept : (c y : List ℕ) → length c ≡ 128 → length y ≡ length (take net.m c) → length (y ++ drop net.m c) ≡ 128
+  links_kept c y l e = omega (arith, length-append y (drop net.m c), length-drop net.m c, links_room c l, links_count c l)
 
-    stage_room : i ≤ net.k → length out₀ ≡ (net.k + 1) * (net.n * net.n) → at + net.n * net.n ≤ length out
-    stage_room h l =
-        let e = at_more i (net.n * net.n) at at_is in
-        let g : i + 1 ≤ net.k + 1 = omega arith in
-        omega (arith, e, mul-le-mul_right (net.n * net.n) g, l, Q.long)
+  pub nodes_kept : (d y : List (List ℕ)) → length d ≡ 32 → length y ≡ length (take net.n d) → length (y ++ drop net.n d) ≡ 32
+  nodes_kept d y l e = omega (arith, length-append y (drop net.n d), length-drop net.n d, nodes_room d l, nodes_count d l)
 
-    pub turn_room : (k : ℕ) → i ≤ k → k ≡ net.k → length out₀ ≡ (net.k + 1) * (net.n * net.n) → at + net.n * net.n ≤ length out
-    turn_room k h e l = stage_room (omega arith) l
+  -- ---- `fill_tables`
+  pub out_held : (out : List ℕ) → length out ≡ tables_length net → length out ≡ tables_length (listed net a b weights homes rows).net
+  unfolding set_with
+  out_held out l = l
 
-    pub at_fits : (size k : ℕ) → size ≡ net.n * net.n → i ≤ k → k ≡ net.k → length out₀ ≡ (net.k + 1) * (net.n * net.n) → Fits w64 (at + size)
-    unfolding set_with
-    at_fits size k e h f l =
-        let few : net.k + 1 ≤ 33 = omega (arith, A.rules.limits.topologies.0) in
-        record { fits = omega (arith, stage_room (omega arith) l, Q.long, e, mul-le-mul few square_few) }
+-- ---- of an accepted set
+module _ (S : Set) (A : AcceptedSet S) where
+  table_long : (i : ℕ) → length (hop_table S i) ≡ S.net.n * S.net.n
+  unfolding hop_table
+  table_long i = length_flat (λ u. up_to (next_hop S i u) S.net.n) S.net.n S.net.n (λ u h. length_up_to (next_hop S i u) S.net.n)
 
-    pub turn_fits : (k : ℕ) → i ≤ k → k ≡ net.k → Fits w8 (i + 1)
-    unfolding set_with
-    turn_fits k h e = record { fits = omega (arith, A.rules.limits.topologies.0) }
+  room_after : (i : ℕ) (out : List ℕ) → i ≤ S.net.k → length out ≡ (S.net.k + 1) * (S.net.n * S.net.n) → i * (S.net.n * S.net.n) + S.net.n * S.net.n ≤ length out
+  room_after i out h l =
+      let g : i + 1 ≤ S.net.k + 1 = omega arith in
+      omega (arith, at_more i (S.net.n * S.net.n) (i * (S.net.n * S.net.n)) refl, mul-le-mul_right (S.net.n * S.net.n) g, l)
 
-    pub stage_more : (e : List ℕ) (f : List (List ℕ)) (size k : ℕ) → size ≡ net.n * net.n → i ≤ k → k ≡ net.k → AddedAt S i at out e f → length e ≡ length out → Stage S out₀ e f (i + 1) (at + size)
-    unfolding set_with flat
-    stage_more e f size k es h ek D le =
-        rw es (
-        record {
-          low = omega arith;
-          at_is = at_more i (net.n * net.n) at at_is;
-          long = le ∙ Q.long;
-          is = D.hops ∙ put ∙ rw add-one;
-          alternates = rw add-one D.alternates;
-        })
-      where
-        done : List ℕ
-        done = flat (hop_table S) i
+  one_more : (i : ℕ) (out₀ out y : List ℕ) (alts e : List (List ℕ)) → Stage S out₀ out alts i → Added S i y e
+      → Stage S out₀ (take (i * (S.net.n * S.net.n)) out ++ (y ++ drop (i * (S.net.n * S.net.n) + S.net.n * S.net.n - i * (S.net.n * S.net.n)) (drop (i * (S.net.n * S.net.n)) out))) e (i + 1)
+  one_more i out₀ out y alts e Q D =
+      record {
+        is = start_more (hop_table S) (S.net.n * S.net.n) i out₀ out y table_long Q.is D.hops;
+        alternates = rw add-one D.alternates;
+      }
 
-        done_long : length done ≡ at
-        done_long = length_flat (hop_table S) (net.n * net.n) i (λ j g. table_long j) ∙ sym at_is
+  all_done : (i : ℕ) (out₀ out : List ℕ) (alts : List (List ℕ)) → Stage S out₀ out alts i → i ≡ S.net.k + 1 → length out₀ ≡ (S.net.k + 1) * (S.net.n * S.net.n) → AllAdded S out alts
+  all_done i out₀ out alts Q e l =
+      record {
+        hops = rows_done (hop_table S) (S.net.n * S.net.n) (S.net.k + 1) i (i * (S.net.n * S.net.n)) out₀ out (omega arith) (omega arith) refl l Q.is;
+        alternates = subst (λ (j : ℕ). AlternatesBelow S j alts) e Q.alternates;
+      }
 
-        y : List ℕ
-        y = hop_table S i
-
-        front : take at out ≡ done
-        front = ap (take at) Q.is ∙ take_at done (drop at out₀) at done_long
-
-        back : drop (at + net.n * net.n) out ≡ drop (at + net.n * net.n) out₀
-        back = sym (drop-drop (net.n * net.n) at out) ∙ ap (drop (net.n * net.n)) (ap (drop at) Q.is ∙ drop_at done (drop at out₀) at done_long) ∙ drop-drop (net.n * net.n) at out₀
-
-        put : take at out ++ (y ++ drop (at + net.n * net.n) out) ≡ (done ++ y) ++ drop (at + net.n * net.n) out₀
-        put = rw (front, back) (sym (append_assoc done y (drop (at + net.n * net.n) out₀)))
-
-    pub stage_done : (k : ℕ) → k < i → k ≡ net.k → length out₀ ≡ (net.k + 1) * (net.n * net.n) → AllAdded S out alts
-    unfolding set_with
-    stage_done k h ek l =
-        let e : i ≡ net.k + 1 = omega (arith, Q.low) in
-        record {
-          hops = rows_done (hop_table S) (net.n * net.n) (net.k + 1) i at out₀ out Q.low (omega arith) at_is l Q.is;
-          alternates = subst (λ (j : ℕ). AlternatesBelow S j alts) e Q.alternates;
-        }
-
-  -- ---- `all_tables`
-  alternates_are : (f : List (List ℕ)) → AlternatesBelow S (net.k + 1) f → flat (entries_of f net.n) net.n ≡ flat (λ u. up_to (alternate S u) net.n) net.n
-  unfolding set_with entries_of entry
+  alternates_are : (f : List (List ℕ)) → AlternatesBelow S (S.net.k + 1) f → flat (entries_of f S.net.n) S.net.n ≡ flat (λ u. up_to (alternate S u) S.net.n) S.net.n
+  unfolding entries_of entry
   alternates_are f B =
-      flat_ext (entries_of f net.n) (λ u. up_to (alternate S u) net.n) net.n
-      (λ u lu. up_to_ext (entry (get_or f u [])) (alternate S u) net.n (λ v lv. B.is u lu (omega (arith, home_high S A u lu)) v lv))
+      flat_ext (entries_of f S.net.n) (λ u. up_to (alternate S u) S.net.n) S.net.n
+      (λ u lu. up_to_ext (entry (get_or f u [])) (alternate S u) S.net.n (λ v lv. B.is u lu (omega (arith, home_high S A u lu)) v lv))
 
-  module _ (out : List ℕ) (long : length out ≡ tables_length net) where
-    tables_long : length out ≡ (net.k + 1) * (net.n * net.n) + net.n * net.n
+  module _ (out : List ℕ) (long : length out ≡ tables_length S.net) where
+    tables_long : length out ≡ (S.net.k + 1) * (S.net.n * S.net.n) + S.net.n * S.net.n
     unfolding tables_length
     tables_long = long
 
-    pub tail_within : net.n * net.n ≤ length out
-    tail_within = omega (arith, tables_long)
+    split : ℕ
+    split = length out - S.net.n * S.net.n
 
-    pub front_long : (split : ℕ) → split ≡ length out - net.n * net.n → length (take split out) ≡ (net.k + 1) * (net.n * net.n)
-    front_long split e = length-take-le split out (omega arith) ∙ omega (arith, tables_long)
-
-    pub front_count : (split : ℕ) → split ≡ length out - net.n * net.n → split ≡ length (take split out)
-    front_count split e = sym (length-take-le split out (omega arith))
+    front_fits : length (take split out) ≡ (S.net.k + 1) * (S.net.n * S.net.n)
+    unfolding split
+    front_fits = length-take-le split out (omega arith) ∙ omega (arith, tables_long)
 
     module _ (y : List ℕ) (f : List (List ℕ)) (D : AllAdded S y f) where
-      split : ℕ
-      split = length out - net.n * net.n
-
       front : length y ≡ split
-      unfolding set_with split
-      front = ap length D.hops ∙ length_flat (hop_table S) (net.n * net.n) (net.k + 1) (λ i h. table_long i) ∙ omega (arith, tables_long)
+      unfolding split
+      front = ap length D.hops ∙ length_flat (hop_table S) (S.net.n * S.net.n) (S.net.k + 1) (λ i h. table_long i) ∙ omega (arith, tables_long)
 
       whole : List ℕ
       whole = y ++ drop split out
 
-      back_long : length whole - split ≡ net.n * net.n
+      back_long : length whole - split ≡ S.net.n * S.net.n
       unfolding whole split
       back_long = omega (arith, length-append y (drop split out), front, length-drop split out, tables_long)
 
-      back : drop split whole ≡ drop split out
-      unfolding whole
-      back = drop_at y (drop split out) split front
-
-      pub alternates_few : length f ≤ 32
-      unfolding set_with
-      alternates_few = omega (arith, D.alternates.long, A.rules.limits.nodes.1)
-
-      pub tail_long : length (take (length (y ++ drop (length out - net.n * net.n) out) - (length out - net.n * net.n)) (drop (length out - net.n * net.n) (y ++ drop (length out - net.n * net.n) out))) ≡ length f * length f
-      unfolding set_with whole split
-      tail_long =
+      tail_fits : length (take (length whole - split) (drop split whole)) ≡ length f * length f
+      tail_fits =
           length-take-le (length whole - split) (drop split whole) (omega (arith, length-drop split whole))
           ∙ back_long ∙ rw D.alternates.long
+
+      filled : (z : List ℕ) → z ≡ flat (entries_of f (length f)) (length f) → take split whole ++ (z ++ drop (length whole - split) (drop split whole)) ≡ table_bytes S
+      unfolding whole table_bytes hop_table
+      filled z q =
+          let rest : drop (length whole - split) (drop split whole) ≡ [] = ap (λ (j : ℕ). drop j (drop split whole)) (sym (length-drop split whole)) ∙ drop-length (drop split whole) in
+          ap₂ ◌++◌ (take_at y (drop split out) split front ∙ D.hops)
+          (ap₂ ◌++◌ q rest ∙ append-nil (flat (entries_of f (length f)) (length f)) ∙ rw D.alternates.long (alternates_are f D.alternates))
+
+-- ---- of the set that lists hold
+module _ (net : Network) (a b weights homes rows : List ℕ) (S : Set) (V : listed net a b weights homes rows ≡ S) (A : AcceptedSet (listed net a b weights homes rows)) where
+  accepted : AcceptedSet S
+  accepted = subst AcceptedSet V A
+
+  same : S.net ≡ net
+  unfolding set_with
+  same = ap (λ (Q : Set). Q.net) (sym V)
+
+  -- ---- `topologies`
+  pub turn_low : (i : ℕ) → i ≤ net.k → i ≤ S.net.k
+  turn_low i h = rw same h
+
+  pub links_held : (c : List ℕ) → length c ≡ 128 → length (take net.m c) ≡ S.net.m
+  links_held c l = rw same (sym (links_count net a b weights homes rows A c l))
+
+  pub nodes_held : (d : List (List ℕ)) → length d ≡ 32 → length (take net.n d) ≡ S.net.n
+  nodes_held d l = rw same (sym (nodes_count net a b weights homes rows A d l))
+
+  pub turn_room : (i : ℕ) (out₀ out : List ℕ) → i ≤ net.k → length out₀ ≡ (S.net.k + 1) * (S.net.n * S.net.n) → length out ≡ length out₀ → i * (net.n * net.n) + net.n * net.n ≤ length out
+  turn_room i out₀ out h l m =
+      subst (λ (N : Network). i * (N.n * N.n) + N.n * N.n ≤ length out) same (room_after S accepted i out (turn_low i h) (m ∙ l))
+
+  pub turn_part : (i : ℕ) (out₀ out : List ℕ) → i ≤ net.k → length out₀ ≡ (S.net.k + 1) * (S.net.n * S.net.n) → length out ≡ length out₀
+      → length (take (i * (net.n * net.n) + net.n * net.n - i * (net.n * net.n)) (drop (i * (net.n * net.n)) out)) ≡ S.net.n * S.net.n
+  turn_part i out₀ out h l m =
+      part_long (i * (net.n * net.n)) (net.n * net.n) out (turn_room i out₀ out h l m) ∙ ap (λ (N : Network). N.n * N.n) (sym same)
+
+  pub stage_none : (out : List ℕ) (alts : List (List ℕ)) → length alts ≡ S.net.n → Stage S out out alts 0
+  stage_none out alts l =
+      record { is = start_none (hop_table S) (S.net.n * S.net.n) out; alternates = record { long = l; is = λ u lu h. absurd (omega arith) } }
+
+  module _ (i : ℕ) (out₀ out : List ℕ) (alts : List (List ℕ)) (Q : Stage S out₀ out alts i) where
+    pub stage_alternates : AlternatesBelow S i alts
+    stage_alternates = Q.alternates
+
+    pub stage_more : (y : List ℕ) (e : List (List ℕ)) → Added S i y e
+        → Stage S out₀ (take (i * (net.n * net.n)) out ++ (y ++ drop (i * (net.n * net.n) + net.n * net.n - i * (net.n * net.n)) (drop (i * (net.n * net.n)) out))) e (i + 1)
+    stage_more y e D =
+        subst
+        (λ (N : Network). Stage S out₀ (take (i * (N.n * N.n)) out ++ (y ++ drop (i * (N.n * N.n) + N.n * N.n - i * (N.n * N.n)) (drop (i * (N.n * N.n)) out))) e (i + 1))
+        same (one_more S accepted i out₀ out y alts e Q D)
+
+    pub stage_last : (y : List ℕ) (e : List (List ℕ)) → Added S i y e → i ≤ net.k → net.k ≤ i → length out₀ ≡ (S.net.k + 1) * (S.net.n * S.net.n)
+        → AllAdded S (take (i * (net.n * net.n)) out ++ (y ++ drop (i * (net.n * net.n) + net.n * net.n - i * (net.n * net.n)) (drop (i * (net.n * net.n)) out))) e
+    stage_last y e D h g l =
+        all_done S accepted (i + 1) out₀ _ e (stage_more y e D) (let z : i + 1 ≡ net.k + 1 = omega arith in rw same z) l
+
+  -- ---- `all_tables`
+  module _ (out : List ℕ) (long : length out ≡ tables_length S.net) where
+    pub tail_within : net.n * net.n ≤ length out
+    tail_within =
+        subst (λ (N : Network). N.n * N.n ≤ length out) same (omega (arith, tables_long S accepted out long))
+
+    pub front_long : length (take (length out - net.n * net.n) out) ≡ (S.net.k + 1) * (S.net.n * S.net.n)
+    unfolding split
+    front_long = subst (λ (N : Network). length (take (length out - N.n * N.n) out) ≡ (S.net.k + 1) * (S.net.n * S.net.n)) same (front_fits S accepted out long)
+
+    module _ (y : List ℕ) (f : List (List ℕ)) (D : AllAdded S y f) where
+      pub alternates_few : length f ≤ 32
+      alternates_few = omega (arith, D.alternates.long, accepted.rules.limits.nodes.1)
+
+      pub tail_long : length (take (length (y ++ drop (length out - net.n * net.n) out) - (length out - net.n * net.n)) (drop (length out - net.n * net.n) (y ++ drop (length out - net.n * net.n) out))) ≡ length f * length f
+      unfolding whole split
+      tail_long =
+          subst
+          (λ (N : Network). length (take (length (y ++ drop (length out - N.n * N.n) out) - (length out - N.n * N.n)) (drop (length out - N.n * N.n) (y ++ drop (length out - N.n * N.n) out))) ≡ length f * length f)
+          same (tail_fits S accepted out long y f D)
 
       pub all_filled : (z : List ℕ) → z ≡ flat (entries_of f (length f)) (length f)
           → take (length out - net.n * net.n) (y ++ drop (length out - net.n * net.n) out)
           ++ (z ++ drop (length (y ++ drop (length out - net.n * net.n) out) - (length out - net.n * net.n)) (drop (length out - net.n * net.n) (y ++ drop (length out - net.n * net.n) out)))
           ≡ table_bytes S
-      unfolding set_with whole split table_bytes hop_table
+      unfolding whole split
       all_filled z q =
-          let rest : drop (length whole - split) (drop split whole) ≡ [] = ap (λ (j : ℕ). drop j (drop split whole)) (sym (length-drop split whole)) ∙ drop-length (drop split whole) in
-          ap₂ ◌++◌ (take_at y (drop split out) split front ∙ D.hops)
-          (ap₂ ◌++◌ q rest ∙ append-nil (flat (entries_of f (length f)) (length f)) ∙ rw D.alternates.long (alternates_are f D.alternates))
+          subst
+          (λ (N : Network). take (length out - N.n * N.n) (y ++ drop (length out - N.n * N.n) out)
+          ++ (z ++ drop (length (y ++ drop (length out - N.n * N.n) out) - (length out - N.n * N.n)) (drop (length out - N.n * N.n) (y ++ drop (length out - N.n * N.n) out)))
+          ≡ table_bytes S)
+          same (filled S accepted out long y f D z q)
 
-  -- ---- `in_room`
-  module _ (c : List ℕ) (d w alts : List (List ℕ)) (R : Roomy net.m net.n (length c) (length d) (length w) (length alts)) where
-    pub c_count : net.m ≡ length (take net.m c)
-    c_count = sym (length-take-le net.m c R.c_room)
-
-    pub d_count : net.n ≡ length (take net.n d)
-    d_count = sym (length-take-le net.n d R.d_room)
-
-    pub w_count : net.n ≡ length (take net.n w)
-    w_count = sym (length-take-le net.n w R.w_room)
-
-    pub alts_count : net.n ≡ length (take net.n alts)
-    alts_count = sym (length-take-le net.n alts R.alts_room)
-
-    pub room_work : Work S (take net.m c) (take net.n d) (take net.n w)
-    unfolding set_with
-    room_work = record { c_long = sym c_count; d_long = sym d_count; w_long = sym w_count }
-
-    pub room_alternates : length (take net.n alts) ≡ net.n
-    room_alternates = sym alts_count
-
-  -- ---- `fill_tables`
-  pub room_enough : Roomy net.m net.n 128 32 32 32
-  unfolding set_with
-  room_enough =
-      let q = A.rules.limits in
-      record { c_room = q.links.1; d_room = q.nodes.1; w_room = q.nodes.1; alts_room = q.nodes.1 }
-
--- ---- `copy_row`, `copy_rows`
-pub copy_more : (r d e : List ℕ) (v : ℕ) → e ≡ up_to (entry r) v ++ drop v d → v < length e → length e ≡ length d → set e v (get_or r v 0) ≡ up_to (entry r) (v + 1) ++ drop (v + 1) d
+-- ---- `copy_rows`
+front_is : (r : List ℕ) (n : ℕ) → n ≤ length r → take n r ≡ up_to (entry r) n
 unfolding entry
-copy_more r d e v q h l = fill_more (entry r) d e v (get_or r v 0) q h l refl
+front_is r n h =
+    ext_get_or 0 (take n r) (up_to (entry r) n) (length-take-le n r h ∙ sym (length_up_to (entry r) n))
+    (λ i g. let k : i < n = omega (arith, length-take-le n r h) in get_or-take n r i 0 k ∙ sym (get_d_up_to (entry r) n i 0 k))
 
-pub copy_done : (r d e : List ℕ) (v : ℕ) → e ≡ up_to (entry r) v ++ drop v d → length e ≤ v → v ≤ length d → length e ≡ length d → e ≡ up_to (entry r) (length d)
-copy_done r d e v q h g l = fill_done (entry r) d e v (length d) q (omega arith) g refl
-
-pub copies_more : (alts : List (List ℕ)) (n u at j : ℕ) (out e y : List ℕ) → y ≡ up_to (entry (get_or alts u [])) j → j ≡ n → e ≡ flat (entries_of alts n) u ++ drop at out → at ≡ u * n
-    → take at e ++ (y ++ drop (at + n - at) (drop at e)) ≡ flat (entries_of alts n) (u + 1) ++ drop (at + n) out
+pub copies_more : (alts : List (List ℕ)) (u : ℕ) (out e y : List ℕ) → e ≡ flat (entries_of alts (length alts)) u ++ drop (u * length alts) out
+    → ((i : ℕ) → i < length alts → length (get_or alts i []) ≡ 32) → u < length alts → length alts ≤ 32 → y ≡ take (length alts) (get_or alts u [])
+    → take (u * length alts) e ++ (y ++ drop (u * length alts + length alts - u * length alts) (drop (u * length alts) e)) ≡ flat (entries_of alts (length alts)) (u + 1) ++ drop ((u + 1) * length alts) out
 unfolding entries_of
-copies_more alts n u at j out e y ey ej q ea = rows_more (entries_of alts n) n u at out e y (λ i. length_up_to (entry (get_or alts i [])) n) q ea (ey ∙ rw ej)
+copies_more alts u out e y q rows h few ey =
+    let n = length alts in
+    start_more (entries_of alts n) n u out e y (λ i. length_up_to (entry (get_or alts i [])) n) q (ey ∙ front_is (get_or alts u []) n (omega (arith, rows u h)))
 
-pub copies_done : (alts : List (List ℕ)) (n u at : ℕ) (out e : List ℕ) → u ≤ n → n ≤ u → at ≡ u * n → length out ≡ n * n → e ≡ flat (entries_of alts n) u ++ drop at out → e ≡ flat (entries_of alts n) n
-copies_done alts n u at out e h g q l p = rows_done (entries_of alts n) n n u at out e h g q l p
+pub copies_done : (alts : List (List ℕ)) (u : ℕ) (out e : List ℕ) → u ≤ length alts → length alts ≤ u → length out ≡ length alts * length alts → e ≡ flat (entries_of alts (length alts)) u ++ drop (u * length alts) out
+    → e ≡ flat (entries_of alts (length alts)) (length alts)
+copies_done alts u out e h g l p = let n = length alts in rows_done (entries_of alts n) n n u (u * n) out e h g refl l p

@@ -1,5 +1,5 @@
 -- The tables of an accepted set, topology by topology.
-use Rattle.std.specs.Prelude.{ℕ, suc, ◌+◌, ◌*◌, ◌≤◌, ◌<◌, ◌≡◌, List, [], ◌++◌, length, get_or, take, drop}
+use Rattle.std.specs.Prelude.{ℕ, suc, ◌+◌, ◌*◌, ◌<◌, ◌≡◌, List, [], ◌++◌, length, get_or, drop}
 use Rattle.rules.specs.Basics.{up_to, flat}
 use Rattle.rules.specs.File.{Set}
 use Rattle.rules.specs.Isolation.{home}
@@ -32,20 +32,9 @@ pub record AlternatesBelow (S : Set) (i : ℕ) (alts : List (List ℕ)) : Type 0
   pub long : length alts ≡ S.net.n
   pub is : (u : ℕ) → u < S.net.n → home S u < i → (v : ℕ) → v < S.net.n → get_or (get_or alts u []) v 0 ≡ alternate S u v
 
--- room to work in: an entry for each link, a row for each node
-pub record Work (S : Set) (c : List ℕ) (d w : List (List ℕ)) : Type 0 where
-  pub c_long : length c ≡ S.net.m
-  pub d_long : length d ≡ S.net.n
-  pub w_long : length w ≡ S.net.n
-
 -- what one topology adds: its next hops, and the alternates of the nodes whose home it is
 pub record Added (S : Set) (i : ℕ) (out : List ℕ) (alts : List (List ℕ)) : Type 0 where
   pub hops : out ≡ hop_table S i
-  pub alternates : AlternatesBelow S (suc i) alts
-
--- the same where the next hops stand at `at` in out, which was out₀
-pub record AddedAt (S : Set) (i at : ℕ) (out₀ out : List ℕ) (alts : List (List ℕ)) : Type 0 where
-  pub hops : out ≡ take at out₀ ++ (hop_table S i ++ drop (at + S.net.n * S.net.n) out₀)
   pub alternates : AlternatesBelow S (suc i) alts
 
 -- what all topologies add
@@ -53,17 +42,7 @@ pub record AllAdded (S : Set) (out : List ℕ) (alts : List (List ℕ)) : Type 0
   pub hops : out ≡ flat (hop_table S) (S.net.k + 1)
   pub alternates : AlternatesBelow S (S.net.k + 1) alts
 
--- lists of lengths x, y, z and v have room for m links and n nodes
-pub record Roomy (m n x y z v : ℕ) : Type 0 where
-  pub c_room : m ≤ x
-  pub d_room : n ≤ y
-  pub w_room : n ≤ z
-  pub alts_room : n ≤ v
-
--- after i topologies: their tables stand at the front of out, and what follows from `at` on is as it came
-pub record Stage (S : Set) (out₀ out : List ℕ) (alts : List (List ℕ)) (i at : ℕ) : Type 0 where
-  pub low : i ≤ S.net.k + 1
-  pub at_is : at ≡ i * (S.net.n * S.net.n)
-  pub long : length out ≡ length out₀
-  pub is : out ≡ flat (hop_table S) i ++ drop at out₀
+-- after i topologies: their tables stand at the front of out, and what follows is as it came
+pub record Stage (S : Set) (out₀ out : List ℕ) (alts : List (List ℕ)) (i : ℕ) : Type 0 where
+  pub is : out ≡ flat (hop_table S) i ++ drop (i * (S.net.n * S.net.n)) out₀
   pub alternates : AlternatesBelow S i alts

@@ -16,10 +16,10 @@ use Rattle.rules.proofs.Ground.Choices.{if_yes, if_no}
 use Rattle.rules.proofs.Ground.Rows.{length_up_to, up_to_ext, flat_ext}
 use Rattle.routes.specs.Lanes.{column}
 use Rattle.routes.specs.Passes.{Net, net_of, Wired}
-use Rattle.routes.proofs.Lanes.{same?, column_at, column_long, column_set}
-use Rattle.routes.proofs.Filling.{fill_more, fill_done, rows_more, rows_done}
+use Rattle.routes.proofs.Lanes.{column_at, column_long, column_set}
+use Rattle.routes.proofs.Filling.{fill_more, fill_done, start_more, rows_done}
 use Rattle.words.specs.Word.{either, lowest_in, only}
-use Rattle.nexthops.specs.Ties.{tie_of, mark_lane, marked, mark, mark_both, mark_link, marks, WideRows, Marked, MarkSpot, MarkPair, Clear, Worded, hop_of, hop_at, hops_of, tie_hop, tie_table}
+use Rattle.nexthops.specs.Ties.{tie_of, mark_lane, marked, mark, mark_both, mark_link, marks, Marked, MarkSpot, Worded, hop_of, hop_at, hops_of, tie_hop, tie_table}
 use Rattle.nexthops.proofs.Lowest.{hop_is}
 
 -- ---- `tie`, `or_word`
@@ -64,86 +64,61 @@ module _ (c bit : ℕ) (p q w : List ℕ) where
       (λ (f : t < k). get_or-set_other (marked c bit p q k w) k t v 0 (λ e. omega arith) ∙ marked_at k t f (omega arith))
       (eq-or-lt_of_le (le_of_suc-le-suc h))
 
--- ---- `mark_one`
-pub one_marked : (x y c bit : ℕ) (d w : List (List ℕ)) (v : List ℕ) → v ≡ marked c bit (get_or d x []) (get_or d y []) 32 (get_or w x []) → bit ≡ only y → MarkSpot d w x y c → WideRows w → Marked d w (set w x v) (mark x y c)
+-- ---- `mark`
+pub one_marked : (x y c bit : ℕ) (d w : List (List ℕ)) (v : List ℕ) → v ≡ marked c bit (get_or d x []) (get_or d y []) 32 (get_or w x []) → bit ≡ only y → MarkSpot d w x y c
+    → ((u : ℕ) → u < length w → length (get_or w u []) ≡ 32) → Marked d w (set w x v) (mark x y c)
 unfolding mark
-one_marked x y c bit d w v e eb S W =
+one_marked x y c bit d w v e eb S wide =
     let p = get_or d x [] in
     let q = get_or d y [] in
-    let l : length (get_or w x []) ≡ 32 = W.wide x S.w_in in
+    let l : length (get_or w x []) ≡ 32 = wide x S.w_in in
     record {
       is = λ t h. column_set t x w v ∙ ap (set (column t w) x) (ap (λ (r : List ℕ). get_or r t 0) e ∙ marked_at c bit p q (get_or w x []) 32 t h (omega (arith, l)) ∙ rw (column_at t x w, column_at t x d, column_at t y d, eb));
-      wide = record {
-        wide = λ u h.
-            ⊎_elim (λ (z : u ≡ x). ap length (ap (get_or (set w x v) u) refl ∙ (rw z (get_or-set_same w x v [] S.w_in)) ∙ e) ∙ marked_length c bit p q (get_or w x []) 32 ∙ l)
-            (λ (ne : u ≡ x → ⊥). ap length (get_or-set_other w x u v [] ne) ∙ W.wide u (omega (arith, length-set w x v)))
-            (same? u x);
-      };
       long = length-set w x v;
     }
 
--- ---- `mark_pair`
-module _ (d w : List (List ℕ)) (x y k : ℕ) (P : MarkPair d w x y k) where
-  pub pair_one : MarkSpot d w x y k
-  pair_one = record { x_in = P.x_in; w_in = omega (arith, P.x_in, P.long); y_in = P.y_in; c_low = P.c_low; y_few = omega (arith, P.y_in, P.few) }
-
-  pub pair_two : (e : List (List ℕ)) → Marked d w e (mark x y k) → MarkSpot d e y x k
-  pair_two e M = record { x_in = P.y_in; w_in = omega (arith, P.y_in, P.long, M.long); y_in = P.x_in; c_low = P.c_low; y_few = omega (arith, P.x_in, P.few) }
-
-pub pair_marked : (d w e f : List (List ℕ)) (x y k : ℕ) → Marked d w e (mark x y k) → Marked d e f (mark y x k) → Marked d w f (mark_both x y k)
-unfolding mark_both
-pair_marked d w e f x y k M N = record { is = λ t g. N.is t g ∙ rw (M.is t g); wide = N.wide; long = N.long ∙ M.long }
-
--- ---- `mark_link`
-module _ (a b c : List ℕ) (l x y k : ℕ) (d w : List (List ℕ)) (ex : x ≡ get_or a l 0) (ey : y ≡ get_or b l 0) (ek : k ≡ get_or c l 0) where
-  pub mark_pair : Wired a b c (length d) → length w ≡ length d → l < length a → MarkPair d w x y k
-  mark_pair F lw h = record { x_in = omega (arith, F.a_in l h); y_in = omega (arith, F.b_in l h); long = lw; c_low = omega (arith, F.c_low l h); few = F.few }
-
-  pub link_marked : (e : List (List ℕ)) → Marked d w e (mark_both x y k) → Marked d w e (mark_link (net_of a b c) l)
-  unfolding mark_link
-  link_marked e M = record { is = λ t g. M.is t g ∙ rw (ex, ey, ek); wide = M.wide; long = M.long }
-
-pub marked_wide : (d w v : List (List ℕ)) (F : List ℕ → List ℕ → List ℕ) → Marked d w v F → WideRows v
-marked_wide d w v F M = M.wide
-
 -- ---- `mark_links`
-pub links_none : (a b c : List ℕ) (d w : List (List ℕ)) → WideRows w → Marked d w w (marks (net_of a b c) 0)
+module _ (a b c : List ℕ) (l : ℕ) (d v w : List (List ℕ)) (F : Wired a b c (length d)) (h : l < length c) (long : length w ≡ length d) (same : length v ≡ length w) where
+  pub spot : MarkSpot d v (get_or a l 0) (get_or b l 0) (get_or c l 0)
+  spot =
+      let g : l < length a = omega (arith, F.c_long) in
+      record { x_in = F.a_in l g; w_in = omega (arith, F.a_in l g); y_in = F.b_in l g; c_low = F.c_low l g; y_few = omega (arith, F.b_in l g, F.few) }
+
+  pub spot_back : (u : List (List ℕ)) → length u ≡ length v → MarkSpot d u (get_or b l 0) (get_or a l 0) (get_or c l 0)
+  spot_back u q =
+      let g : l < length a = omega (arith, F.c_long) in
+      record { x_in = F.b_in l g; w_in = omega (arith, F.b_in l g); y_in = F.a_in l g; c_low = F.c_low l g; y_few = omega (arith, F.a_in l g, F.few) }
+
+pub links_none : (a b c : List ℕ) (d w : List (List ℕ)) → Marked d w w (marks (net_of a b c) 0)
 unfolding marks
-links_none a b c d w W = record { is = λ t h. refl; wide = W; long = refl }
+links_none a b c d w = record { is = λ t h. refl; long = refl }
 
-pub links_more : (a b c : List ℕ) (l : ℕ) (d w e f : List (List ℕ)) → Marked d w e (marks (net_of a b c) l) → Marked d e f (mark_link (net_of a b c) l) → Marked d w f (marks (net_of a b c) (l + 1))
-unfolding marks
-links_more a b c l d w e f M N = record { is = λ t g. N.is t g ∙ rw (M.is t g, add-one); wide = N.wide; long = N.long ∙ M.long }
+pub links_more : (a b c : List ℕ) (l : ℕ) (d w e f g : List (List ℕ)) → Marked d w e (marks (net_of a b c) l) → Marked d e f (mark (get_or a l 0) (get_or b l 0) (get_or c l 0))
+    → Marked d f g (mark (get_or b l 0) (get_or a l 0) (get_or c l 0)) → Marked d w g (marks (net_of a b c) (l + 1))
+unfolding marks mark_link mark_both
+links_more a b c l d w e f g M N P = record { is = λ t h. P.is t h ∙ rw (N.is t h, M.is t h, add-one); long = P.long ∙ N.long ∙ M.long }
 
-pub links_done : (a b c : List ℕ) (l : ℕ) (d w e : List (List ℕ)) → Marked d w e (marks (net_of a b c) l) → l ≤ length a → length a ≤ l → Marked d w e (marks (net_of a b c) (length a))
-links_done a b c l d w e M h g = let z : l ≡ length a = omega arith in subst (λ (k : ℕ). Marked d w e (marks (net_of a b c) k)) z M
+pub links_done : (a b c : List ℕ) (l n : ℕ) (d w e : List (List ℕ)) → Wired a b c n → Marked d w e (marks (net_of a b c) l) → l ≤ length c → length c ≤ l → Marked d w e (marks (net_of a b c) (length a))
+links_done a b c l n d w e F M h g = let z : l ≡ length a = omega (arith, F.c_long) in subst (λ (k : ℕ). Marked d w e (marks (net_of a b c) k)) z M
 
--- ---- `clear`
+-- ---- `words`
 pub clear_none : (w : List (List ℕ)) → (v : ℕ) → v < 0 → get_or w v [] ≡ replicate 32 0
 clear_none w = below_none (λ v. get_or w v [] ≡ replicate 32 0)
 
-pub clear_more : (w : List (List ℕ)) (u : ℕ) (r : List ℕ) → ((v : ℕ) → v < u → get_or w v [] ≡ replicate 32 0) → r ≡ replicate 32 0 → u < length w → (v : ℕ) → v < u + 1 → get_or (set w u r) v [] ≡ replicate 32 0
-clear_more w u r all e h = below_more (λ v. get_or (set w u r) v [] ≡ replicate 32 0) u (λ v g. get_or-set_other w u v r [] (λ z. omega arith) ∙ all v g) (get_or-set_same w u r [] h ∙ e)
+pub clear_more : (w : List (List ℕ)) (n u : ℕ) → ((v : ℕ) → v < u → get_or w v [] ≡ replicate 32 0) → u < n → length w ≡ n → (v : ℕ) → v < u + 1 → get_or (set w u (replicate 32 0)) v [] ≡ replicate 32 0
+clear_more w n u all h l = below_more (λ v. get_or (set w u (replicate 32 0)) v [] ≡ replicate 32 0) u (λ v g. get_or-set_other w u v (replicate 32 0) [] (λ z. omega arith) ∙ all v g) (get_or-set_same w u (replicate 32 0) [] (omega arith))
 
-pub cleared : (d w : List (List ℕ)) (i : ℕ) → ((v : ℕ) → v < i → get_or w v [] ≡ replicate 32 0) → length w ≤ i → length w ≡ length d → Clear w (length d)
-cleared d w i all h l = record { is = λ u g. all u (omega arith); long = l }
-
--- ---- `words`
-pub clear_wide : (w : List (List ℕ)) (n : ℕ) → Clear w n → WideRows w
-clear_wide w n C = record { wide = λ u h. ap length (C.is u (omega (arith, C.long))) ∙ length-replicate {A = ℕ} 32 0 }
-
-pub clear_long : (w d : List (List ℕ)) (n : ℕ) → Clear w n → n ≡ length d → length w ≡ length d
-clear_long w d n C e = C.long ∙ e
-
-clear_column : (w : List (List ℕ)) (n t : ℕ) → Clear w n → t < 32 → column t w ≡ replicate n 0
-clear_column w n t C h =
-    ext_get_or 0 (column t w) (replicate n 0) (column_long t w ∙ C.long ∙ sym (length-replicate {A = ℕ} n 0))
+clear_column : (w : List (List ℕ)) (n t : ℕ) → ((v : ℕ) → v < n → get_or w v [] ≡ replicate 32 0) → length w ≡ n → t < 32 → column t w ≡ replicate n 0
+clear_column w n t all l h =
+    ext_get_or 0 (column t w) (replicate n 0) (column_long t w ∙ l ∙ sym (length-replicate {A = ℕ} n 0))
     (λ u g.
-    let f : u < n = omega (arith, column_long t w, C.long) in
-    column_at t u w ∙ ap (λ (r : List ℕ). get_or r t 0) (C.is u f) ∙ get_or-replicate 32 t 0 0 h ∙ sym (get_or-replicate n u 0 0 f))
+    let f : u < n = omega (arith, column_long t w) in
+    column_at t u w ∙ ap (λ (r : List ℕ). get_or r t 0) (all u f) ∙ get_or-replicate 32 t 0 0 h ∙ sym (get_or-replicate n u 0 0 f))
 
-pub worded : (a b c : List ℕ) (d w v : List (List ℕ)) (n : ℕ) → Clear w n → n ≡ length d → Marked d w v (marks (net_of a b c) (length a)) → Worded (net_of a b c) d v (length d)
-worded a b c d w v n C e M = record { is = λ t h. M.is t h ∙ rw (clear_column w n t C h, e); long = M.long ∙ C.long ∙ e }
+pub worded : (a b c : List ℕ) (d w v : List (List ℕ)) (n i : ℕ) → ((u : ℕ) → u < i → get_or w u [] ≡ replicate 32 0) → n ≤ i → length w ≡ n → n ≡ length d → Marked d w v (marks (net_of a b c) (length a))
+    → Worded (net_of a b c) d v (length d)
+worded a b c d w v n i all g l e M =
+    record { is = λ t h. M.is t h ∙ rw (clear_column w n t (λ u z. all u (omega arith)) l h, e); long = M.long ∙ l ∙ e }
 
 -- ---- `hop`
 pub hop_self : (w u t : ℕ) → u ≡ t → u ≡ hop_of w u t
@@ -155,22 +130,24 @@ unfolding hop_of
 hop_first w u t s ne q = q ∙ sym (if_no (eqb u t) u (lowest_in w) (ne_eqb u t ne))
 
 -- ---- `hop_row`
-pub lane_more : (w : List ℕ) (u : ℕ) (d e : List ℕ) (t v : ℕ) → e ≡ up_to (hop_at w u) t ++ drop t d → t < length e → length e ≡ length d → v ≡ hop_of (get_or w t 0) u t
+pub lane_more : (w : List ℕ) (u : ℕ) (d e : List ℕ) (t v : ℕ) → e ≡ up_to (hop_at w u) t ++ drop t d → t < length d → length e ≡ length d → v ≡ hop_of (get_or w t 0) u t
     → set e t v ≡ up_to (hop_at w u) (t + 1) ++ drop (t + 1) d
 unfolding hop_at
-lane_more w u d e t v q h l ev = fill_more (hop_at w u) d e t v q h l ev
+lane_more w u d e t v q h l ev = fill_more (hop_at w u) d e t v q (omega arith) l ev
 
-pub lane_done : (w : List ℕ) (u : ℕ) (d e : List ℕ) (t : ℕ) → e ≡ up_to (hop_at w u) t ++ drop t d → length e ≤ t → t ≤ length d → length e ≡ length d → e ≡ up_to (hop_at w u) (length d)
-lane_done w u d e t q h g l = fill_done (hop_at w u) d e t (length d) q (omega arith) g refl
+pub lane_done : (w : List ℕ) (u : ℕ) (d e : List ℕ) (t : ℕ) → e ≡ up_to (hop_at w u) t ++ drop t d → length d ≤ t → t ≤ length d → e ≡ up_to (hop_at w u) (length d)
+lane_done w u d e t q h g = fill_done (hop_at w u) d e t (length d) q h g refl
 
 -- ---- `hop_rows`
-pub hops_more : (w : List (List ℕ)) (n u at j : ℕ) (out e y : List ℕ) → y ≡ up_to (hop_at (get_or w u []) u) j → j ≡ n → e ≡ flat (hops_of w n) u ++ drop at out → at ≡ u * n
-    → take at e ++ (y ++ drop (at + n - at) (drop at e)) ≡ flat (hops_of w n) (u + 1) ++ drop (at + n) out
+pub hops_more : (w : List (List ℕ)) (u j : ℕ) (out e y : List ℕ) → y ≡ up_to (hop_at (get_or w u []) u) j → j ≡ length w → e ≡ flat (hops_of w (length w)) u ++ drop (u * length w) out
+    → take (u * length w) e ++ (y ++ drop (u * length w + length w - u * length w) (drop (u * length w) e)) ≡ flat (hops_of w (length w)) (u + 1) ++ drop ((u + 1) * length w) out
 unfolding hops_of
-hops_more w n u at j out e y ey ej q ea = rows_more (hops_of w n) n u at out e y (λ i. length_up_to (hop_at (get_or w i []) i) n) q ea (ey ∙ rw ej)
+hops_more w u j out e y ey ej q =
+    let n = length w in
+    start_more (hops_of w n) n u out e y (λ i. length_up_to (hop_at (get_or w i []) i) n) q (ey ∙ rw ej)
 
-pub hops_done : (w : List (List ℕ)) (n u at : ℕ) (out e : List ℕ) → u ≤ n → n ≤ u → at ≡ u * n → length out ≡ n * n → e ≡ flat (hops_of w n) u ++ drop at out → e ≡ flat (hops_of w n) n
-hops_done w n u at out e h g q l p = rows_done (hops_of w n) n n u at out e h g q l p
+pub hops_done : (w : List (List ℕ)) (u : ℕ) (out e : List ℕ) → u ≤ length w → length w ≤ u → length out ≡ length w * length w → e ≡ flat (hops_of w (length w)) u ++ drop (u * length w) out → e ≡ flat (hops_of w (length w)) (length w)
+hops_done w u out e h g l p = let n = length w in rows_done (hops_of w n) n n u (u * n) out e h g refl l p
 
 -- ---- `hop_table`
 pub table_is : (a b c : List ℕ) (d w : List (List ℕ)) (out : List ℕ) → Wired a b c (length d) → Worded (net_of a b c) d w (length d) → out ≡ flat (hops_of w (length w)) (length w)

@@ -37,13 +37,9 @@ unfoldable pub marks : Net → ℕ → List ℕ → List ℕ → List ℕ
 marks G zero d w = w
 marks G (suc k) d w = mark_link G k d (marks G k d w)
 
-pub record WideRows (w : List (List ℕ)) : Type 0 where
-  pub wide : (u : ℕ) → u < length w → length (get_or w u []) ≡ 32
-
 -- each column of v is F of those of d and w
 pub record Marked (d w v : List (List ℕ)) (F : List ℕ → List ℕ → List ℕ) : Type 0 where
   pub is : (t : ℕ) → t < 32 → column t v ≡ F (column t d) (column t w)
-  pub wide : WideRows v
   pub long : length v ≡ length w
 
 pub record MarkSpot (d w : List (List ℕ)) (x y c : ℕ) : Type 0 where
@@ -52,18 +48,6 @@ pub record MarkSpot (d w : List (List ℕ)) (x y c : ℕ) : Type 0 where
   pub y_in : y < length d
   pub c_low : c ≤ far
   pub y_few : y < 32
-
-pub record MarkPair (d w : List (List ℕ)) (x y c : ℕ) : Type 0 where
-  pub x_in : x < length d
-  pub y_in : y < length d
-  pub long : length w ≡ length d
-  pub c_low : c ≤ far
-  pub few : length d ≤ 32
-
--- n rows of 32 words that are 0
-pub record Clear (w : List (List ℕ)) (n : ℕ) : Type 0 where
-  pub is : (u : ℕ) → u < n → get_or w u [] ≡ replicate 32 0
-  pub long : length w ≡ n
 
 -- each column of w is the words by that of d
 pub record Worded (G : Net) (d w : List (List ℕ)) (n : ℕ) : Type 0 where

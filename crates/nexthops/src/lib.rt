@@ -2,13 +2,14 @@
 // is shown in proofs/. The neighbours that tie are the bits of a word, of which the lowest is taken.
 #![tactic(auto)]
 
-ghost use Rattle.std.specs.Prelude.{◌≡◌, ◌+◌, ◌*◌, ◌≤◌, ◌<◌, length, replicate};
+ghost use Rattle.std.specs.Prelude.{◌≡◌, ◌+◌, ◌*◌, ◌≤◌, ◌<◌, length};
 ghost use Rattle.rules.specs.Basics.{up_to, flat};
 ghost use Rattle.rules.specs.Distance.{far};
 ghost use Rattle.routes.specs.Lanes.{LowRow, LowRows};
 ghost use Rattle.routes.specs.Passes.{net_of, Wired};
-ghost use Rattle.nexthops.specs.Ties.{tie_of, marked, mark, mark_both, mark_link, marks, WideRows, Marked, MarkSpot, MarkPair, Clear, Worded, hop_of, hop_at, hops_of, tie_table};
+ghost use Rattle.nexthops.specs.Ties.{tie_of, marked, mark, marks, Marked, MarkSpot, Worded, hop_of, hop_at, hops_of, tie_table};
 
+use routes::Ends;
 use rules::Network;
 use words::{either, lowest, only};
 
@@ -34,112 +35,57 @@ fn mark_row(
     requires c_le_far { c ≤ far }
     ensures { w.new ≡ marked c bit p.now q.now 32 w.old }
 {
-    let mut t = 0;
-    while t < Network::LANES {
-        let v = tie(c + q[t], p[t], bit);
-        w[t] = either(w[t], v);
-        t += 1;
+    for t in 0..Network::LANES {
+        w[t] = either(w[t], tie(c + q[t], p[t], bit));
     }
 }
 
-fn mark_one(w: &mut [[u32; Network::LANES]], d: &[[u32; Network::LANES]], x: u8, y: u8, c: u32)
-    requires mark_spot { MarkSpot d.now w.old x y c }
-    requires low_rows { LowRows d.now }
-    requires wide_rows { WideRows w.old }
-    ensures { Marked d.now w.old w.new (mark x y c) }
-{
-    let bit = only(y);
-    let mut v = w[x as usize];
-    let p = d[x as usize];
-    let q = d[y as usize];
-    mark_row(&mut v, &p, &q, c, bit);
-    w[x as usize] = v;
+// A topology whose links cost c, with its distances d.
+#[derive(Clone, Copy)]
+struct Topology<'a> {
+    ends: Ends<'a>,
+    c: &'a [u32],
+    d: &'a [[u32; Network::LANES]],
+    ghost wired: { Wired ends.a.now ends.b.now c.now (length d.now) },
+    ghost low_rows: { LowRows d.now },
 }
 
-// A link of cost c between x and y, both ways.
-fn mark_pair(w: &mut [[u32; Network::LANES]], d: &[[u32; Network::LANES]], x: u8, y: u8, c: u32)
-    requires mark_pair { MarkPair d.now w.old x y c }
-    requires low_rows { LowRows d.now }
-    requires wide_rows { WideRows w.old }
-    ensures { Marked d.now w.old w.new (mark_both x y c) }
-{
-    mark_one(w, d, x, y, c);
-    mark_one(w, d, y, x, c);
-}
-
-fn mark_link(
-    a: &[u8],
-    b: &[u8],
-    c: &[u32],
-    l: usize,
-    d: &[[u32; Network::LANES]],
-    w: &mut [[u32; Network::LANES]],
-)
-    requires wired { Wired a.now b.now c.now (length d.now) }
-    requires low_rows { LowRows d.now }
-    requires wide_rows { WideRows w.old }
-    requires w_len { length w.old ≡ length d.now }
-    requires l_in_bounds { l < length a.now }
-    ensures { Marked d.now w.old w.new (mark_link (net_of a.now b.now c.now) l) }
-{
-    let x = routes::end(a, l);
-    let y = routes::end(b, l);
-    let k = routes::cost(c, l);
-    mark_pair(w, d, x, y, k);
-}
-
-fn mark_links(
-    a: &[u8],
-    b: &[u8],
-    c: &[u32],
-    d: &[[u32; Network::LANES]],
-    w: &mut [[u32; Network::LANES]],
-)
-    requires wired { Wired a.now b.now c.now (length d.now) }
-    requires low_rows { LowRows d.now }
-    requires wide_rows { WideRows w.old }
-    requires w_len { length w.old ≡ length d.now }
-    ensures { Marked d.now w.old w.new (marks (net_of a.now b.now c.now) (length a.now)) }
-{
-    let mut l = 0;
-    while l < a.len() {
-        mark_link(a, b, c, l, d, w);
-        l += 1;
+impl Topology<'_> {
+    // In the words of x, the bit of y, over a link of that cost. Rows are copied out, so that the lanes are known not to overlap.
+    fn mark(&self, x: u8, y: u8, cost: u32, w: &mut [[u32; Network::LANES]])
+        requires { MarkSpot self.now.d.now w.old x y cost }
+        ensures { Marked self.now.d.now w.old w.new (mark x y cost) }
+    {
+        let mut v = w[x as usize];
+        let p = self.d[x as usize];
+        let q = self.d[y as usize];
+        mark_row(&mut v, &p, &q, cost, only(y));
+        w[x as usize] = v;
     }
-}
 
-fn zeros() -> [u32; Network::LANES]
-    ensures { result ≡ replicate 32 0 }
-{
-    let r = [0u32; Network::LANES];
-    r
-}
-
-fn clear(w: &mut [[u32; Network::LANES]])
-    ensures { Clear w.new (length w.old) }
-{
-    let mut u = 0;
-    while u < w.len() {
-        w[u] = zeros();
-        u += 1;
+    // Each link, both ways.
+    fn mark_links(&self, w: &mut [[u32; Network::LANES]])
+        requires { length w.old ≡ length self.now.d.now }
+        ensures { Marked self.now.d.now w.old w.new (marks (net_of self.now.ends.a.now self.now.ends.b.now self.now.c.now) (length self.now.ends.a.now)) }
+    {
+        for (l, cost) in self.c.iter().enumerate() {
+            let x = self.ends.a[l];
+            let y = self.ends.b[l];
+            self.mark(x, y, *cost, w);
+            self.mark(y, x, *cost, w);
+        }
     }
-}
 
-// Column t: the words of the neighbours that tie toward t.
-fn words(
-    a: &[u8],
-    b: &[u8],
-    c: &[u32],
-    d: &[[u32; Network::LANES]],
-    w: &mut [[u32; Network::LANES]],
-)
-    requires wired { Wired a.now b.now c.now (length d.now) }
-    requires low_rows { LowRows d.now }
-    requires w_len { length w.old ≡ length d.now }
-    ensures { Worded (net_of a.now b.now c.now) d.now w.new (length d.now) }
-{
-    clear(w);
-    mark_links(a, b, c, d, w);
+    // Column t: the words of the neighbours that tie toward t.
+    fn words(&self, w: &mut [[u32; Network::LANES]])
+        requires { length w.old ≡ length self.now.d.now }
+        ensures { Worded (net_of self.now.ends.a.now self.now.ends.b.now self.now.c.now) self.now.d.now w.new (length self.now.d.now) }
+    {
+        for row in w.iter_mut() {
+            *row = [0; Network::LANES];
+        }
+        self.mark_links(w);
+    }
 }
 
 fn hop(w: u32, u: u8, t: u8) -> u8
@@ -156,10 +102,8 @@ fn hop_row(w: &[u32; Network::LANES], u: u8, out: &mut [u8])
     requires { length out.old ≤ 32 }
     ensures { out.new ≡ up_to (hop_at w.now u) (length out.old) }
 {
-    let mut t: usize = 0;
-    while t < out.len() {
-        out[t] = hop(w[t], u, t as u8);
-        t += 1;
+    for (t, next) in out.iter_mut().enumerate() {
+        *next = hop(w[t], u, t as u8);
     }
 }
 
@@ -168,14 +112,9 @@ fn hop_rows(w: &[[u32; Network::LANES]], out: &mut [u8])
     ensures { out.new ≡ flat (hops_of w.now (length w.now)) (length w.now) }
 {
     let n = w.len();
-    let mut u: usize = 0;
-    let mut at: usize = 0;
-    while u < n {
-        let to = at + n;
-        let v = w[u];
-        hop_row(&v, u as u8, &mut out[at..to]);
-        at = to;
-        u += 1;
+    for (u, row) in w.iter().enumerate() {
+        let at = u * n;
+        hop_row(row, u as u8, &mut out[at..at + n]);
     }
 }
 
@@ -183,18 +122,17 @@ fn hop_rows(w: &[[u32; Network::LANES]], out: &mut [u8])
 // Rules out: a next hop that is not the lowest of the neighbours that tie `words/tie_by_leading_zeros`; another node than itself
 // in a node's entry for itself.
 pub fn hop_table(
-    a: &[u8],
-    b: &[u8],
+    ends: Ends<'_>,
     c: &[u32],
     d: &[[u32; Network::LANES]],
     w: &mut [[u32; Network::LANES]],
     out: &mut [u8],
 )
-    requires wired { Wired a.now b.now c.now (length d.now) }
+    requires wired { Wired ends.a.now ends.b.now c.now (length d.now) }
     requires low_rows { LowRows d.now }
     requires w_len { (length w.old ≡ length d.now) × (length out.old ≡ length d.now * length d.now) }
-    ensures { out.new ≡ tie_table (net_of a.now b.now c.now) d.now (length d.now) }
+    ensures { out.new ≡ tie_table (net_of ends.entry.a.now ends.entry.b.now c.now) d.now (length d.now) }
 {
-    words(a, b, c, d, w);
+    Topology { ends, c, d }.words(w);
     hop_rows(w, out);
 }

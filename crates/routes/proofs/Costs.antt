@@ -2,7 +2,7 @@
 use Prim.Native.Nat.{ℕ, suc, ◌+◌, ◌-◌, ◌*◌, ◌≤◌, ◌<◌}
 use native.Mathlib.Nat.{suc-mul, mul-le-mul}
 use native.Mathlib.Omega.{arith}
-use mathlib.Core.Path.{◌≡◌, sym, ap, ◌∙◌}
+use mathlib.Core.Path.{◌≡◌, sym, ap}
 use mathlib.Core.List.{List, ◌++◌}
 use lib.ListN.{length, get_or, set, take, drop}
 use lib.Seq.{length-take-le}
@@ -69,19 +69,23 @@ module _ (p q i w r : ℕ) where
   unfolding cost_of cost_by class_by
   cost_normal e f = rw (ne_eqb p i e, ne_eqb q i f)
 
-module _ (a b homes row : List ℕ) (m l x y : ℕ) (L : Links a b homes row m) (h : l < m) (ey : y ≡ get_or a l 0) (ex : x ≡ y) where
-  pub home_a : x < length homes
-  home_a = omega (arith, L.a_in l h)
+module _ (a b homes row : List ℕ) (m l : ℕ) (L : Links a b homes row m) (h : l < m) where
+  pub a_in : l < length a
+  a_in = omega (arith, L.a_long)
 
-module _ (a b homes row : List ℕ) (m l x y : ℕ) (L : Links a b homes row m) (h : l < m) (ey : y ≡ get_or b l 0) (ex : x ≡ y) where
-  pub home_b : x < length homes
-  home_b = omega (arith, L.b_in l h)
+  pub b_in : l < length b
+  b_in = omega (arith, L.b_long)
 
-pub cost_at_is : (a b homes row : List ℕ) (i r l x x' y y' p q w s : ℕ) → x ≡ get_or a l 0 → x' ≡ x → y ≡ get_or b l 0 → y' ≡ y → p ≡ get_or homes x' 0 → q ≡ get_or homes y' 0
-    → w ≡ get_or row l 0 → s ≡ cost_of p q i w r → s ≡ cost_at a b homes row i r l
+  pub row_in : l < length row
+  row_in = omega (arith, L.row_long)
+
+  pub home_a : get_or a l 0 < length homes
+  home_a = L.a_in l h
+
+  pub home_b : get_or b l 0 < length homes
+  home_b = L.b_in l h
+
+pub costs_more : (a b homes row : List ℕ) (i r : ℕ) (d e : List ℕ) (l v : ℕ) → e ≡ up_to (cost_at a b homes row i r) l ++ drop l d → l < length d → length e ≡ length d
+    → v ≡ cost_of (get_or homes (get_or a l 0) 0) (get_or homes (get_or b l 0) 0) i (get_or row l 0) r → set e l v ≡ up_to (cost_at a b homes row i r) (l + 1) ++ drop (l + 1) d
 unfolding cost_at
-cost_at_is a b homes row i r l x x' y y' p q w s e1 e2 e3 e4 e5 e6 e7 e8 = e8 ∙ rw (e5, e6, e7, e2, e4, e1, e3)
-
-pub costs_more : (a b homes row : List ℕ) (i r m : ℕ) (d e : List ℕ) (l v : ℕ) → e ≡ up_to (cost_at a b homes row i r) l ++ drop l d → l < m → m ≡ length d → length e ≡ length d
-    → v ≡ cost_at a b homes row i r l → set e l v ≡ up_to (cost_at a b homes row i r) (l + 1) ++ drop (l + 1) d
-costs_more a b homes row i r m d e l v q h g k = fill_more (cost_at a b homes row i r) d e l v q (omega arith) k
+costs_more a b homes row i r d e l v q h g k = fill_more (cost_at a b homes row i r) d e l v q (omega arith) g k

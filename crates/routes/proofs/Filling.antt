@@ -1,6 +1,6 @@
 -- A lent list that is filled from the front, value by value or row by row.
 use Prim.Native.Nat.{ℕ, suc, ◌+◌, ◌-◌, ◌*◌, ◌^◌, ◌≤◌, ◌<◌}
-use native.Mathlib.Nat.{zero-mul, suc-mul, mul-le-mul_right}
+use native.Mathlib.Nat.{zero-mul, suc-mul, mul-le-mul, mul-le-mul_right}
 use native.Mathlib.Numerals.{add-one}
 use native.Mathlib.Omega.{arith}
 use mathlib.Core.Path.{◌≡◌, refl, sym, ap, ◌∙◌}
@@ -75,3 +75,25 @@ rows_done f n l k at d e h g q s p =
 pub rows_long : (n at : ℕ) (e y : List ℕ) (m : ℕ) → length y ≡ length (take (at + n - at) (drop at e)) → length e ≡ m
     → length (take at e ++ (y ++ drop (at + n - at) (drop at e))) ≡ m
 rows_long n at e y m l le = same_len_mid at (at + n - at) e y l ∙ le
+
+-- ---- the same where row k of rows of n starts at k * n
+
+pub start_none : (f : ℕ → List ℕ) (n : ℕ) (d : List ℕ) → d ≡ flat f 0 ++ drop (0 * n) d
+unfolding flat
+start_none f n d = rw zero-mul refl
+
+pub start_fits : (k n : ℕ) → k < n → n ≤ 32 → Fits w64 (k * n)
+start_fits k n h few = let less : k ≤ 32 = omega arith in let q : k * n ≤ 32 * 32 = mul-le-mul less few in record { fits = omega arith }
+
+pub stop_fits : (k n : ℕ) → k < n → n ≤ 32 → Fits w64 (k * n + n)
+stop_fits k n h few = let less : k ≤ 32 = omega arith in let q : k * n ≤ 32 * 32 = mul-le-mul less few in record { fits = omega arith }
+
+pub start_room : (k n s m : ℕ) → k < n → s ≡ m → m ≡ n * n → k * n + n ≤ s
+start_room k n s m h es f = rw es (at_room k n n (k * n) m h refl f)
+
+pub start_more : (f : ℕ → List ℕ) (n k : ℕ) (d e y : List ℕ) → ((j : ℕ) → length (f j) ≡ n) → e ≡ flat f k ++ drop (k * n) d → y ≡ f k
+    → take (k * n) e ++ (y ++ drop (k * n + n - k * n) (drop (k * n) e)) ≡ flat f (k + 1) ++ drop ((k + 1) * n) d
+start_more f n k d e y l q ey = rows_more f n k (k * n) d e y l q refl ey ∙ ap (λ (at : ℕ). flat f (k + 1) ++ drop at d) (at_more k n (k * n) refl)
+
+pub start_part : (k n m : ℕ) (e : List ℕ) → length e ≡ m → k < n → m ≡ n * n → length (take (k * n + n - k * n) (drop (k * n) e)) ≡ n
+start_part k n m e s h f = row_part k n n (k * n) m e s h refl f

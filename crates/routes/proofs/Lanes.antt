@@ -3,18 +3,16 @@ use Prim.Native.Nat.{ℕ, zero, suc, ◌+◌, ◌≤◌, ◌<◌, min, zero-le}
 use native.Mathlib.Nat.{eq-or-lt_of_le, le_of_suc-le-suc, le_refl}
 use native.Mathlib.Numerals.{add-one}
 use native.Mathlib.Omega.{arith}
-use mathlib.Core.Path.{◌≡◌, refl, sym, ap, ap₂, ◌∙◌}
+use mathlib.Core.Path.{◌≡◌, refl, sym, ap, ◌∙◌}
 use mathlib.Core.Bool.{Bool, true, false}
 use mathlib.Core.Logic.{◌⊎◌, inl, inr, ⊎_elim}
 use mathlib.Core.List.{List, [], ◌∷◌, map}
-use lib.Dec.{eqb, ltb}
-use lib.Signed.{lt_z}
+use lib.Dec.{eqb}
 use lib.ListN.{length, get_or, set, replicate, length-set, length-map, length-replicate, get_or-replicate, get_or-map}
 use lib.Seq.{get_or-set_same, get_or-set_other}
-use borrow.Author.Tests.{ltb-true, ltb-false, eqb-true, eqb-false}
+use borrow.Author.Tests.{eqb-true, eqb-false}
 use mir.Syntax.{w32}
-use mir.Val.{Fits, to_z}
-use mir.Facts.{to_z_pos}
+use mir.Val.{Fits}
 use Rattle.rules.specs.Distance.{far}
 use Rattle.rules.proofs.Ground.Rows.{past}
 use Rattle.routes.specs.Lanes.{lane, lanes, LowRow, unit_row, column, entry, LowRows}
@@ -30,16 +28,6 @@ pub in_or_out : (m n : ℕ) → (m < n) ⊎ (n ≤ m)
 in_or_out m zero = inr zero-le
 in_or_out zero (suc n) = inl (omega arith)
 in_or_out (suc m) (suc n) = ⊎_elim (λ (h : m < n). inl (omega arith)) (λ (h : n ≤ m). inr (omega arith)) (in_or_out m n)
-
--- ---- `lesser`
-signed_lt : (p q : ℕ) → p < 2147483648 → q < 2147483648 → lt_z (to_z w32 q) (to_z w32 p) ≡ ltb q p
-signed_lt p q hp hq = ap₂ lt_z (to_z_pos w32 hq) (to_z_pos w32 hp)
-
-pub lesser_second : (p q : ℕ) → (p < 2147483648) × (q < 2147483648) → lt_z (to_z w32 q) (to_z w32 p) ≡ true → q ≡ min p q
-lesser_second p q h e = omega (arith, ltb-true q p (sym (signed_lt p q h.0 h.1) ∙ e))
-
-pub lesser_first : (p q : ℕ) → (p < 2147483648) × (q < 2147483648) → lt_z (to_z w32 q) (to_z w32 p) ≡ false → p ≡ min p q
-lesser_first p q h e = omega (arith, ltb-false q p (sym (signed_lt p q h.0 h.1) ∙ e))
 
 -- ---- `lower_lanes`
 pub lanes_none : (c : ℕ) (q p : List ℕ) → p ≡ lanes c q 0 p

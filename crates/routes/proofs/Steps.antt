@@ -19,43 +19,30 @@ use Rattle.routes.proofs.Passes.{direct_length, direct_le, through_far, through_
 pub unit_none : (d : List (List ℕ)) → (v : ℕ) → v < 0 → get_or d v [] ≡ unit_row v
 unit_none d = below_none (λ v. get_or d v [] ≡ unit_row v)
 
-pub unit_more : (d : List (List ℕ)) (u : ℕ) (r : List ℕ) → ((v : ℕ) → v < u → get_or d v [] ≡ unit_row v) → r ≡ unit_row u → u < length d → (v : ℕ) → v < u + 1 → get_or (set d u r) v [] ≡ unit_row v
-unit_more d u r all e h = below_more (λ v. get_or (set d u r) v [] ≡ unit_row v) u (λ v g. get_or-set_other d u v r [] (λ z. omega arith) ∙ all v g) (get_or-set_same d u r [] h ∙ e)
+pub unit_more : (d : List (List ℕ)) (m u : ℕ) (r : List ℕ) → ((v : ℕ) → v < u → get_or d v [] ≡ unit_row v) → r ≡ unit_row u → u < m → length d ≡ m → (v : ℕ) → v < u + 1 → get_or (set d u r) v [] ≡ unit_row v
+unit_more d m u r all e h l = below_more (λ v. get_or (set d u r) v [] ≡ unit_row v) u (λ v g. get_or-set_other d u v r [] (λ z. omega arith) ∙ all v g) (get_or-set_same d u r [] (omega arith) ∙ e)
 
-pub begun : (d e : List (List ℕ)) (i : ℕ) → ((v : ℕ) → v < i → get_or e v [] ≡ unit_row v) → length e ≤ i → length e ≡ length d → e ≡ up_to unit_row (length d)
+pub begun : (d e : List (List ℕ)) (i : ℕ) → ((v : ℕ) → v < i → get_or e v [] ≡ unit_row v) → length d ≤ i → length e ≡ length d → e ≡ up_to unit_row (length d)
 begun d e i all h l =
     ext_get_or [] e (up_to unit_row (length d)) (l ∙ sym (length_up_to unit_row (length d)))
     (λ u g. all u (omega arith) ∙ sym (get_d_up_to unit_row (length d) u [] (omega arith)))
 
 -- ---- `direct`
-pub spot_low : (x y c : ℕ) (d : List (List ℕ)) → Spot d x y c → LowRows d → get_or (get_or d x []) y 0 < 2147483648
-spot_low x y c d P L = omega (arith, (L.low x).low y P.y_in)
-
-pub cost_small : (x y c : ℕ) (d : List (List ℕ)) → Spot d x y c → c < 2147483648
-cost_small x y c d P = omega (arith, P.c_low)
-
 pub direct_is : (x y c v : ℕ) (d : List (List ℕ)) → v ≡ min (get_or (get_or d x []) y 0) c → set d x (set (get_or d x []) y v) ≡ direct x y c d
 unfolding direct entry
 direct_is x y c v d e = rw e
 
--- ---- `direct_link`
-module _ (a b c : List ℕ) (l x y k : ℕ) (d : List (List ℕ)) (F : Wired a b c (length d)) (h : l < length a) (i j : ℕ) (ei : i ≡ get_or a l 0) (ex : x ≡ i) (ej : j ≡ get_or b l 0) (ey : y ≡ j) (ek : k ≡ get_or c l 0) where
-  pub spot : Spot d x y k
-  spot = record { x_in = omega (arith, F.a_in l h); y_in = omega (arith, F.b_in l h, F.few); c_low = omega (arith, F.c_low l h) }
-
-  pub low_once : (e : List (List ℕ)) → LowRows d → e ≡ direct x y k d → LowRows e
-  low_once e L is = rw is (low_falls d (direct x y k d) L (λ u t g. direct_le x y k u t d spot.x_in))
-
-  pub spot_back : (e : List (List ℕ)) → e ≡ direct x y k d → Spot e y x k
-  spot_back e is =
-      let long : length e ≡ length d = ap length is ∙ direct_length x y k d in
-      record { x_in = omega (arith, F.b_in l h); y_in = omega (arith, F.a_in l h, F.few); c_low = spot.c_low }
-
-  pub linked : (e f : List (List ℕ)) → e ≡ direct x y k d → f ≡ direct y x k e → f ≡ direct_link (net_of a b c) l d
-  unfolding direct_link
-  linked e f is more = rw (more, is, ex, ei, ey, ej, ek)
-
 -- ---- `direct_links`
+module _ (a b c : List ℕ) (l : ℕ) (d e : List (List ℕ)) (F : Wired a b c (length d)) (h : l < length c) (long : length e ≡ length d) where
+  pub spot : Spot e (get_or a l 0) (get_or b l 0)
+  spot = record { x_in = omega (arith, F.a_in l (omega (arith, F.c_long))); y_in = omega (arith, F.b_in l (omega (arith, F.c_long)), F.few) }
+
+  pub spot_back : (f : List (List ℕ)) → length f ≡ length e → Spot f (get_or b l 0) (get_or a l 0)
+  spot_back f q = record { x_in = omega (arith, F.b_in l (omega (arith, F.c_long))); y_in = omega (arith, F.a_in l (omega (arith, F.c_long)), F.few) }
+
+direct_low : (x y c : ℕ) (d : List (List ℕ)) → LowRows d → x < length d → LowRows (direct x y c d)
+direct_low x y c d L h = low_falls d (direct x y c d) L (λ u t g. direct_le x y c u t d h)
+
 module _ (a b c : List ℕ) (d : List (List ℕ)) (F : Wired a b c (length d)) (L : LowRows d) where
   taken : (l : ℕ) → l ≤ length a → (length (direct_links (net_of a b c) l d) ≡ length d) × LowRows (direct_links (net_of a b c) l d)
   unfolding direct_links direct_link
@@ -63,18 +50,11 @@ module _ (a b c : List ℕ) (d : List (List ℕ)) (F : Wired a b c (length d)) (
   taken (suc l) h =
       let q = taken l (omega arith) in
       let e = direct_links (net_of a b c) l d in
-      let G : Wired a b c (length e) = rw q.0 F in
-      let one = low_once a b c l (get_or a l 0) (get_or b l 0) (get_or c l 0) e G h (get_or a l 0) (get_or b l 0) refl refl refl refl refl (direct (get_or a l 0) (get_or b l 0) (get_or c l 0) e) q.1 refl in (
-        direct_length (get_or b l 0) (get_or a l 0) (get_or c l 0) _ ∙ direct_length (get_or a l 0) (get_or b l 0) (get_or c l 0) e ∙ q.0,
-        low_falls (direct (get_or a l 0) (get_or b l 0) (get_or c l 0) e) _ one
-            (λ u t g. direct_le (get_or b l 0) (get_or a l 0) (get_or c l 0) u t _ (omega (arith, direct_length (get_or a l 0) (get_or b l 0) (get_or c l 0) e, q.0, F.b_in l h))),
+      let k = direct_length (get_or a l 0) (get_or b l 0) (get_or c l 0) e in
+      let one = direct_low (get_or a l 0) (get_or b l 0) (get_or c l 0) e q.1 (omega (arith, F.a_in l h, q.0)) in (
+        direct_length (get_or b l 0) (get_or a l 0) (get_or c l 0) _ ∙ k ∙ q.0,
+        direct_low (get_or b l 0) (get_or a l 0) (get_or c l 0) _ one (omega (arith, k, q.0, F.b_in l h)),
       )
-
-  pub wired_on : (l : ℕ) (e : List (List ℕ)) → e ≡ direct_links (net_of a b c) l d → l < length a → Wired a b c (length e)
-  wired_on l e is h = rw (is, (taken l (omega arith)).0) F
-
-  pub low_on : (l : ℕ) (e : List (List ℕ)) → e ≡ direct_links (net_of a b c) l d → l < length a → LowRows e
-  low_on l e is h = rw is (taken l (omega arith)).1
 
   low_all : (e : List (List ℕ)) → e ≡ direct_links (net_of a b c) (length a) d → LowRows e
   low_all e is = rw is (taken (length a) (omega arith)).1
@@ -83,12 +63,13 @@ pub links_none : (a b c : List ℕ) (d : List (List ℕ)) → d ≡ direct_links
 unfolding direct_links
 links_none a b c d = refl
 
-pub links_more : (a b c : List ℕ) (l : ℕ) (d e f : List (List ℕ)) → e ≡ direct_links (net_of a b c) l d → f ≡ direct_link (net_of a b c) l e → f ≡ direct_links (net_of a b c) (l + 1) d
-unfolding direct_links
-links_more a b c l d e f is more = rw (more, is, add-one)
+pub links_more : (a b c : List ℕ) (l : ℕ) (d e f g : List (List ℕ)) → e ≡ direct_links (net_of a b c) l d → f ≡ direct (get_or a l 0) (get_or b l 0) (get_or c l 0) e
+    → g ≡ direct (get_or b l 0) (get_or a l 0) (get_or c l 0) f → g ≡ direct_links (net_of a b c) (l + 1) d
+unfolding direct_links direct_link
+links_more a b c l d e f g is one two = rw (two, one, is, add-one)
 
-pub links_done : (a b c : List ℕ) (l : ℕ) (d e : List (List ℕ)) → e ≡ direct_links (net_of a b c) l d → l ≤ length a → length a ≤ l → e ≡ direct_links (net_of a b c) (length a) d
-links_done a b c l d e is h g = let q : l ≡ length a = omega arith in subst (λ (k : ℕ). e ≡ direct_links (net_of a b c) k d) q is
+pub links_done : (a b c : List ℕ) (l n : ℕ) (d e : List (List ℕ)) → Wired a b c n → e ≡ direct_links (net_of a b c) l d → l ≤ length c → length c ≤ l → e ≡ direct_links (net_of a b c) (length a) d
+links_done a b c l n d e F is h g = let q : l ≡ length a = omega (arith, F.c_long) in subst (λ (k : ℕ). e ≡ direct_links (net_of a b c) k d) q is
 
 -- ---- `lower_row`
 pub lowered : (x y c : ℕ) (d : List (List ℕ)) (p : List ℕ) → p ≡ lanes c (get_or d y []) 32 (get_or d x []) → set d x p ≡ lower_row x y c d
@@ -124,8 +105,8 @@ module _ (v : ℕ) (d : List (List ℕ)) where
   unfolding pass
   pass_more u e f is more = rw (more, is, add-one)
 
-  pub pass_done : (u : ℕ) (e : List (List ℕ)) → e ≡ pass v u d → u ≤ length d → length e ≡ length d → length e ≤ u → e ≡ pass v (length d) d
-  pass_done u e is h l g = let q : u ≡ length d = omega arith in subst (λ (k : ℕ). e ≡ pass v k d) q is
+  pub pass_done : (u : ℕ) (e : List (List ℕ)) → e ≡ pass v u d → u ≤ length d → length d ≤ u → e ≡ pass v (length d) d
+  pass_done u e is h g = let q : u ≡ length d = omega arith in subst (λ (k : ℕ). e ≡ pass v k d) q is
 
 -- ---- `settle`
 module _ (d : List (List ℕ)) where
@@ -149,8 +130,8 @@ module _ (d : List (List ℕ)) where
   unfolding passes
   passes_more v e f is l more = rw (more, l, is, add-one)
 
-  pub passes_done : (v : ℕ) (e : List (List ℕ)) → e ≡ passes (length d) v d → v ≤ length d → length e ≡ length d → length e ≤ v → e ≡ passes (length d) (length d) d
-  passes_done v e is h l g = let q : v ≡ length d = omega arith in subst (λ (k : ℕ). e ≡ passes (length d) k d) q is
+  pub passes_done : (v : ℕ) (e : List (List ℕ)) → e ≡ passes (length d) v d → v ≤ length d → length d ≤ v → e ≡ passes (length d) (length d) d
+  passes_done v e is h g = let q : v ≡ length d = omega arith in subst (λ (k : ℕ). e ≡ passes (length d) k d) q is
 
 -- ---- `distances`
 pub wired_few : (a b c : List ℕ) (n : ℕ) → Wired a b c n → n ≤ 32

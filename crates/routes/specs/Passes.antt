@@ -41,11 +41,10 @@ unfoldable pub direct_links : Net → ℕ → List (List ℕ) → List (List ℕ
 direct_links G zero d = d
 direct_links G (suc k) d = direct_link G k (direct_links G k d)
 
--- the entry of x for y may be lowered to c
-pub record Spot (d : List (List ℕ)) (x y c : ℕ) : Type 0 where
+-- d has an entry of x for y
+pub record Spot (d : List (List ℕ)) (x y : ℕ) : Type 0 where
   pub x_in : x < length d
   pub y_in : y < 32
-  pub c_low : c ≤ far
 
 -- ---- through a node
 

@@ -13,7 +13,14 @@ ghost use Rattle.routes.specs.Costs.{row_of, HoldsRow, cost_of, cost_at, Links};
 use rules::Network;
 
 // What stands for "no path", and for the cost of a link that is never used.
-const FAR: u32 = 1073741824;
+pub const FAR: u32 = 1073741824;
+
+// The links of a set, as the lists that are lent: link l joins a[l] and b[l].
+#[derive(Clone, Copy)]
+pub struct Ends<'a> {
+    pub a: &'a [u8],
+    pub b: &'a [u8],
+}
 
 // The row in force for topology i: a part of one of the two lists.
 // Rules out: the row of the topology after; the links' own weights in a backup topology.
@@ -45,70 +52,17 @@ fn cost_of(p: u8, q: u8, i: u8, w: u16, r: u32) -> u32
     w as u32
 }
 
-// Rules out: one more than the byte; 0 for a byte above 127.
-pub fn wide(x: u8) -> usize
-    ensures { result ≡ x }
-{
-    x as usize
-}
-
-// Rules out: the entry after; the index in the place of the entry.
-pub fn end(a: &[u8], l: usize) -> u8
-    requires { l < length a.now }
-    ensures { result ≡ get_or a.now l 0 }
-{
-    a[l]
-}
-
-fn weight(row: &[u16], l: usize) -> u16
-    requires { l < length row.now }
-    ensures { result ≡ get_or row.now l 0 }
-{
-    row[l]
-}
-
-// Rules out: the cost of the link after; the index in the place of the cost.
-pub fn cost(c: &[u32], l: usize) -> u32
-    requires { l < length c.now }
-    ensures { result ≡ get_or c.now l 0 }
-{
-    c[l]
-}
-
-fn link_cost(
-    a: &[u8],
-    b: &[u8],
-    homes: &[u8],
-    row: &[u16],
-    i: u8,
-    r: u32,
-    m: usize,
-    l: usize,
-) -> u32
-    requires links { Links a.now b.now homes.now row.now m }
-    requires l_lt_m { l < m }
-    ensures { result ≡ cost_at a.now b.now homes.now row.now i r l }
-{
-    let x = wide(end(a, l));
-    let y = wide(end(b, l));
-    let p = end(homes, x);
-    let q = end(homes, y);
-    let w = weight(row, l);
-    cost_of(p, q, i, w, r)
-}
-
 // The cost of every link in topology i, with its row in force and the restricted weight r.
 // Rules out: a usable cost for a link with both ends isolated `isolated_link_usable`; the row's weight for a link with one end
 // isolated.
-pub fn fill_costs(a: &[u8], b: &[u8], homes: &[u8], row: &[u16], i: u8, r: u32, c: &mut [u32])
-    requires { Links a.now b.now homes.now row.now (length c.old) }
-    ensures { c.new ≡ up_to (cost_at a.now b.now homes.now row.now i r) (length c.old) }
+pub fn fill_costs(ends: Ends<'_>, homes: &[u8], row: &[u16], i: u8, r: u32, c: &mut [u32])
+    requires { Links ends.a.now ends.b.now homes.now row.now (length c.old) }
+    ensures { c.new ≡ up_to (cost_at ends.entry.a.now ends.entry.b.now homes.now row.now i r) (length c.old) }
 {
-    let m = c.len();
-    let mut l = 0;
-    while l < m {
-        c[l] = link_cost(a, b, homes, row, i, r, m, l);
-        l += 1;
+    for (l, cost) in c.iter_mut().enumerate() {
+        let p = homes[ends.a[l] as usize];
+        let q = homes[ends.b[l] as usize];
+        *cost = cost_of(p, q, i, row[l], r);
     }
 }
 
@@ -117,10 +71,7 @@ fn lesser(p: u32, q: u32) -> u32
     requires { (p < 2147483648) × (q < 2147483648) }
     ensures { result ≡ min p q }
 {
-    if (q as i32) < (p as i32) {
-        return q;
-    }
-    p
+    (p as i32).min(q as i32) as u32
 }
 
 // ---- over one link
@@ -139,44 +90,28 @@ fn begin(d: &mut [[u32; Network::LANES]])
     requires { length d.old ≤ 32 }
     ensures { d.new ≡ up_to unit_row (length d.old) }
 {
-    let mut u = 0;
-    while u < d.len() {
-        d[u] = unit(u);
-        u += 1;
+    for (u, row) in d.iter_mut().enumerate() {
+        *row = unit(u);
     }
 }
 
 fn direct(d: &mut [[u32; Network::LANES]], x: usize, y: usize, c: u32)
-    requires spot { Spot d.old x y c }
-    requires low_rows { LowRows d.old }
+    requires { Spot d.old x y }
     ensures { d.new ≡ direct x y c d.old }
 {
-    d[x][y] = lesser(d[x][y], c);
+    d[x][y] = d[x][y].min(c);
 }
 
-// Link l, both ways.
-fn direct_link(a: &[u8], b: &[u8], c: &[u32], l: usize, d: &mut [[u32; Network::LANES]])
-    requires wired { Wired a.now b.now c.now (length d.old) }
-    requires low_rows { LowRows d.old }
-    requires l_in_bounds { l < length a.now }
-    ensures { d.new ≡ direct_link (net_of a.now b.now c.now) l d.old }
+// Each link, both ways.
+fn direct_links(ends: Ends<'_>, c: &[u32], d: &mut [[u32; Network::LANES]])
+    requires { Wired ends.a.now ends.b.now c.now (length d.old) }
+    ensures { d.new ≡ direct_links (net_of ends.entry.a.now ends.entry.b.now c.now) (length ends.entry.a.now) d.old }
 {
-    let x = wide(end(a, l));
-    let y = wide(end(b, l));
-    let k = cost(c, l);
-    direct(d, x, y, k);
-    direct(d, y, x, k);
-}
-
-fn direct_links(a: &[u8], b: &[u8], c: &[u32], d: &mut [[u32; Network::LANES]])
-    requires wired { Wired a.now b.now c.now (length d.old) }
-    requires low_rows { LowRows d.old }
-    ensures { d.new ≡ direct_links (net_of a.now b.now c.now) (length a.now) d.old }
-{
-    let mut l = 0;
-    while l < a.len() {
-        direct_link(a, b, c, l, d);
-        l += 1;
+    for (l, cost) in c.iter().enumerate() {
+        let x = ends.a[l] as usize;
+        let y = ends.b[l] as usize;
+        direct(d, x, y, *cost);
+        direct(d, y, x, *cost);
     }
 }
 
@@ -189,10 +124,8 @@ fn lower_lanes(p: &mut [u32; Network::LANES], q: &[u32; Network::LANES], c: u32)
     requires c_lt_far { c < far }
     ensures { p.new ≡ lanes c q.now 32 p.old }
 {
-    let mut t = 0;
-    while t < Network::LANES {
+    for t in 0..Network::LANES {
         p[t] = lesser(p[t], c + q[t]);
-        t += 1;
     }
 }
 
@@ -226,10 +159,8 @@ fn pass(d: &mut [[u32; Network::LANES]], v: usize)
     requires low_rows { LowRows d.old }
     ensures { d.new ≡ pass v (length d.old) d.old }
 {
-    let mut u = 0;
-    while u < d.len() {
+    for u in 0..d.len() {
         through(d, v, u);
-        u += 1;
     }
 }
 
@@ -239,21 +170,19 @@ fn settle(d: &mut [[u32; Network::LANES]])
     requires low_rows { LowRows d.old }
     ensures { d.new ≡ passes (length d.old) (length d.old) d.old }
 {
-    let mut v = 0;
-    while v < d.len() {
+    for v in 0..d.len() {
         pass(d, v);
-        v += 1;
     }
 }
 
 // Column t: the distances toward t, of a topology whose links cost c.
 // Rules out: paths through node 0 overlooked `one_pass_too_few`; the passes by another node than theirs
 // `through_the_wrong_node`.
-pub fn distances(a: &[u8], b: &[u8], c: &[u32], d: &mut [[u32; Network::LANES]])
-    requires { Wired a.now b.now c.now (length d.old) }
-    ensures { d.new ≡ settled (net_of a.now b.now c.now) (length d.old) }
+pub fn distances(ends: Ends<'_>, c: &[u32], d: &mut [[u32; Network::LANES]])
+    requires { Wired ends.a.now ends.b.now c.now (length d.old) }
+    ensures { d.new ≡ settled (net_of ends.entry.a.now ends.entry.b.now c.now) (length d.old) }
 {
     begin(d);
-    direct_links(a, b, c, d);
+    direct_links(ends, c, d);
     settle(d);
 }

@@ -16,12 +16,12 @@ use Rattle.rules.specs.Judgement.{take_set}
 use Rattle.rules.specs.Entries.Lists.{Lists, lists, LongLists}
 use Rattle.rules.specs.Entries.Write.{set_with}
 use Rattle.rules.specs.Sets.{WithinLimits, AcceptedSet}
-use Rattle.rules.proofs.Ground.Rows.{prefix_long, length_up_to, length_flat}
+use Rattle.rules.proofs.Ground.Rows.{length_up_to, length_flat}
 use Rattle.rules.proofs.File.SetOfBytes.{net_held}
 use Rattle.rules.proofs.File.TakenIn.{set_accepted}
 use Rattle.rules.proofs.Isolation.HomesAndRows.{homes_all}
 use Rattle.listing.specs.Fields.{row_of, lists_of}
-use Rattle.tablefilling.specs.Parts.{Exact, Wide, HoldSet}
+use Rattle.tablefilling.specs.Parts.{Exact}
 
 -- ---- lists of exactly the right lengths hold just the set's
 
@@ -61,14 +61,12 @@ room_of h d s n c x =
       rows = omega (arith, x.rows);
     }
 
-pub lists_held : (s : List ℕ) (h : Network) (d e : Lists) → h ≡ header_of s → take_set s ≡ Accepted → Exact h d → e ≡ lists_of s h d → HoldSet s h e
-lists_held s h d e n c x q = record { accepted = c; set = held s h n c d e x q }
+module _ (s : List ℕ) (h : Network) (d e : Lists) (n : h ≡ header_of s) (c : take_set s ≡ Accepted) (x : Exact h d) (q : e ≡ lists_of s h d) where
+  pub lists_accepted : AcceptedSet (set_with h e)
+  lists_accepted = subst (λ (S : Set). AcceptedSet S) (sym (held s h n c d e x q)) (set_accepted s c)
 
-pub accepted_lists : (s : List ℕ) (h : Network) (d : Lists) → HoldSet s h d → AcceptedSet (set_with h d)
-accepted_lists s h d H = subst (λ (S : Set). AcceptedSet S) (sym H.set) (set_accepted s H.accepted)
-
-pub tables_held : (s : List ℕ) (h : Network) (d : Lists) (t : List ℕ) → HoldSet s h d → t ≡ table_bytes (set_with h d) → t ≡ table_bytes (set_of s)
-tables_held s h d t H g = g ∙ ap table_bytes H.set
+  pub tables_held : (t : List ℕ) → t ≡ table_bytes (set_with h e) → t ≡ table_bytes (set_of s)
+  tables_held t g = g ∙ ap table_bytes (held s h n c d e x q)
 
 -- ---- parts of longer lists
 
@@ -86,36 +84,35 @@ module _ (s : List ℕ) (h : Network) (n : h ≡ header_of s) (c : take_set s �
   unfolding row_weights
   rows_fit = mul-le-mul {n₂ = 32} {m₂ = 128} limits.topologies.0 limits.links.1
 
-  module _ (a b w v r : List ℕ) (x : Wide (lists a b w v r)) where
-    pub a_fits : h.m ≤ length a
-    a_fits = omega (arith, links_fit, x.a)
+  pub links_in : (l : List ℕ) → length l ≡ 128 → h.m ≤ length l
+  links_in l e = omega (arith, links_fit)
 
-    pub b_fits : h.m ≤ length b
-    b_fits = omega (arith, links_fit, x.b)
+  pub nodes_in : (l : List ℕ) → length l ≡ 32 → h.n ≤ length l
+  nodes_in l e = omega (arith, nodes_fit)
 
-    pub weights_fit : h.m ≤ length w
-    weights_fit = omega (arith, links_fit, x.weights)
+  pub rows_in : (entries : ℕ) (l : List ℕ) → entries ≡ h.k * row_weights h → length l ≡ 4096 → entries ≤ length l
+  rows_in entries l e f = omega (arith, rows_fit)
 
-    pub homes_fit : h.n ≤ length v
-    homes_fit = omega (arith, nodes_fit, x.homes)
+  pub links_count : (l : List ℕ) → length l ≡ 128 → h.m ≡ length (take h.m l)
+  links_count l e = sym (length-take-le h.m l (links_in l e))
 
-    pub entries_fit : (entries : ℕ) → entries ≡ h.k * row_weights h → entries ≤ length r
-    entries_fit entries e = omega (arith, rows_fit, x.rows)
+  pub nodes_count : (l : List ℕ) → length l ≡ 32 → h.n ≡ length (take h.n l)
+  nodes_count l e = sym (length-take-le h.n l (nodes_in l e))
 
-pub parts_exact : (s : List ℕ) (h : Network) (a b w v r : List ℕ) (entries : ℕ) → h ≡ header_of s → take_set s ≡ Accepted → Wide (lists a b w v r) → entries ≡ h.k * row_weights h → Exact h (lists (take h.m a) (take h.m b) (take h.m w) (take h.n v) (take entries r))
-parts_exact s h a b w v r entries n c x e =
-    let m = links_fit s h n c in
-    let k = nodes_fit s h n c in
-    let z = rows_fit s h n c in
-    record {
-      a = length-take-le h.m a (omega (arith, x.a));
-      b = length-take-le h.m b (omega (arith, x.b));
-      weights = length-take-le h.m w (omega (arith, x.weights));
-      homes = length-take-le h.n v (omega (arith, x.homes));
-      rows = length-take-le entries r (omega (arith, x.rows)) ∙ e;
-    }
+  pub rows_count : (entries : ℕ) (l : List ℕ) → entries ≡ h.k * row_weights h → length l ≡ 4096 → entries ≡ length (take entries l)
+  rows_count entries l e f = sym (length-take-le entries l (rows_in entries l e f))
 
-pub wide : (a b w v r : List ℕ) → 128 ≡ length a → 128 ≡ length b → 128 ≡ length w → 32 ≡ length v → 4096 ≡ length r → Wide (lists a b w v r)
-wide a b w v r p q x y z = record { a = omega arith; b = omega arith; weights = omega arith; homes = omega arith; rows = omega arith }
+  pub parts_exact : (a b w v r : List ℕ) (entries : ℕ) → length a ≡ 128 → length b ≡ 128 → length w ≡ 128 → length v ≡ 32 → length r ≡ 4096 → entries ≡ h.k * row_weights h
+      → Exact h (lists (take h.m a) (take h.m b) (take h.m w) (take h.n v) (take entries r))
+  parts_exact a b w v r entries p q x y z e =
+      record {
+        a = sym (links_count a p);
+        b = sym (links_count b q);
+        weights = sym (links_count w x);
+        homes = sym (nodes_count v y);
+        rows = sym (rows_count entries r e z) ∙ e;
+      }
 
-pub ruleset tabling = (room_of, lists_held, accepted_lists, tables_held, a_fits, b_fits, weights_fit, homes_fit, entries_fit, prefix_long, parts_exact, wide)
+pub ruleset tabling = (room_of, lists_accepted, tables_held)
+
+pub ruleset parts = (links_in, nodes_in, rows_in, links_count, nodes_count, rows_count, parts_exact)

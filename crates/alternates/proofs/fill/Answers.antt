@@ -1,18 +1,12 @@
-use Rattle.alternates.proofs.Neighbours.{node_homed, nodes_done, nodes_few, nodes_homed, nodes_more, nodes_none}
-use borrow.Author.Rules.{rules}
+use Rattle.alternates.proofs.Neighbours.{nodes_done, nodes_more, nodes_none, nodes_past}
 use Rattle.alternates.proofs.fill.Goals as goal
+use Rattle.alternates.proofs.fill.Goals.{then-homes-u, else-homes-u}
 
 pub loop-u-init : goal.loop-u-init
-loop-u-init c = (search rules, search rules, search nodes_none)
-
-pub alternates_at-requires-clause-homed : goal.alternates_at-requires-clause-homed
-alternates_at-requires-clause-homed c = search nodes_homed
-
-pub alternates_at-requires-clause-d_len_bound : goal.alternates_at-requires-clause-d_len_bound
-alternates_at-requires-clause-d_len_bound c = (search nodes_few, search node_homed, search rules)
+loop-u-init c = search nodes_none
 
 pub loop-u-preserved : goal.loop-u-preserved
-loop-u-preserved c = (search rules, search rules, search nodes_more)
+loop-u-preserved c = elim c.if-homes-u.branch [ then-homes-u w ↦ search nodes_more | else-homes-u w ↦ search nodes_past ]
 
 pub returns : goal.returns
 returns c = search nodes_done

@@ -1,5 +1,5 @@
-use Rattle.engine.proofs.Whole.{room_enough}
+use Rattle.engine.proofs.Whole.{out_held}
 use Rattle.engine.proofs.fill_tables.Goals as goal
 
-pub in_room-requires-clause-roomy : goal.in_room-requires-clause-roomy
-in_room-requires-clause-roomy c = search room_enough
+pub all_tables-requires : goal.all_tables-requires
+all_tables-requires c = search out_held

@@ -1,21 +1,21 @@
-use borrow.Author.Rules.{rules}
+use Rattle.routes.proofs.Filling.{start_none, start_fits, stop_fits, start_room, start_part}
 use Rattle.nexthops.proofs.Ties.{hops_done, hops_more}
-use Rattle.routes.proofs.Filling.{at_end, at_fits, at_more, at_none, row_part, rows_long, rows_none}
 use Rattle.nexthops.proofs.hop_rows.Goals as goal
 
 pub loop-u-init : goal.loop-u-init
-loop-u-init c = (search rules, search at_none, search rules, search rules, search rows_none)
+loop-u-init c = search start_none
 
-pub overflow_add-to : goal.overflow_add-to
-overflow_add-to c = search at_fits
+pub overflow_mul-at : goal.overflow_mul-at
+overflow_mul-at c = search start_fits
+
+pub overflow_add-at : goal.overflow_add-at
+overflow_add-at c = search stop_fits
 
 pub slice_bounds-hop_row-end : goal.slice_bounds-hop_row-end
-slice_bounds-hop_row-end c = search at_end
+slice_bounds-hop_row-end c = search start_room
 
 pub loop-u-preserved : goal.loop-u-preserved
-loop-u-preserved c =
-    let i = c.loop-u.invariant in
-    (search rules, search at_more, search rules, search rows_long, hops_more _ _ _ _ _ _ _ _ c.hop_row.ensures (row_part _ _ _ _ _ _ i.3 c.loop-u-test.true i.1 c.requires.1) i.4 i.1)
+loop-u-preserved c = hops_more _ _ _ _ _ _ c.hop_row.ensures (search start_part) c.loop-u.invariant
 
 pub returns : goal.returns
 returns c = search hops_done

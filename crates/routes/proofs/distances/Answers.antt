@@ -1,14 +1,11 @@
-use Rattle.routes.proofs.Steps.{distances_made, units_are_low, units_wired, wired_few, few_linked, low_linked}
+use Rattle.routes.proofs.Steps.{distances_made, units_wired, wired_few, few_linked, low_linked}
 use Rattle.routes.proofs.distances.Goals as goal
 
 pub begin-requires : goal.begin-requires
 begin-requires c = search wired_few
 
-pub direct_links-requires-clause-wired : goal.direct_links-requires-clause-wired
-direct_links-requires-clause-wired c = search units_wired
-
-pub direct_links-requires-clause-low_rows : goal.direct_links-requires-clause-low_rows
-direct_links-requires-clause-low_rows c = search units_are_low
+pub direct_links-requires : goal.direct_links-requires
+direct_links-requires c = search units_wired
 
 pub settle-requires-clause-d_len_bound : goal.settle-requires-clause-d_len_bound
 settle-requires-clause-d_len_bound c = search few_linked

@@ -1,13 +1,12 @@
 use Rattle.routes.proofs.Costs.{costs_more}
-use borrow.Author.Rules.{rules}
 use Rattle.routes.proofs.Filling.{fill_done, fill_none}
 use Rattle.routes.proofs.fill_costs.Goals as goal
 
 pub loop-l-init : goal.loop-l-init
-loop-l-init c = (search rules, search rules, search rules, search fill_none)
+loop-l-init c = search fill_none
 
 pub loop-l-preserved : goal.loop-l-preserved
-loop-l-preserved c = (search rules, search rules, search rules, search costs_more)
+loop-l-preserved c = search costs_more
 
 pub returns : goal.returns
 returns c = search fill_done

@@ -1,18 +1,14 @@
 use Rattle.routes.proofs.Steps.{passes_done, passes_low, passes_more, passes_none}
-use borrow.Author.Rules.{rules}
 use Rattle.routes.proofs.settle.Goals as goal
 
 pub loop-v-init : goal.loop-v-init
-loop-v-init c = (search rules, search rules, search passes_none)
-
-pub pass-requires-clause-d_len_bound : goal.pass-requires-clause-d_len_bound
-pass-requires-clause-d_len_bound c = (search rules, search rules)
+loop-v-init c = search passes_none
 
 pub pass-requires-clause-low_rows : goal.pass-requires-clause-low_rows
 pass-requires-clause-low_rows c = search passes_low
 
 pub loop-v-preserved : goal.loop-v-preserved
-loop-v-preserved c = (search rules, search rules, search passes_more)
+loop-v-preserved c = search passes_more
 
 pub returns : goal.returns
 returns c = search passes_done

@@ -1,5 +1,0 @@
-use Rattle.alternates.proofs.Neighbours.{row_of}
-use Rattle.alternates.proofs.alternates_of.Goals as goal
-
-pub returns : goal.returns
-returns c = search row_of

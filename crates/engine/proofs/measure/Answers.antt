@@ -1,8 +1,0 @@
-use Rattle.engine.proofs.One.{measure_wired, measured}
-use Rattle.engine.proofs.measure.Goals as goal
-
-pub distances-requires : goal.distances-requires
-distances-requires c = search measure_wired
-
-pub returns : goal.returns
-returns c = search measured
