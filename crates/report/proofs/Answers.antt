@@ -34,11 +34,13 @@ use Rattle.rules.proofs.Refusals.Needs.{room_ok, room_long}
 use Rattle.rooms.specs.Rooms.{few_tables, Room}
 use Rattle.rooms.proofs.Longest as figures
 use Rattle.anyroom.specs.Laying.{Copied}
+use Rattle.text.specs.declared.Pen.{Pen}
 use Rattle.text.specs.Text.{Wrote, labelled_room}
+use Rattle.text.specs.Pen.{Writes}
 use Rattle.detections.specs.Detection.{Ready}
 use Rattle.lines.specs.Lines.{text_room}
 use Rattle.report.specs.Answer.{refusal_room, Made, Says, it, line, Printed}
-use Rattle.text.proofs.Texts.{put_front, wrote_laid, wrote_then}
+use Rattle.text.proofs.Texts.{put_front, wrote_laid, writes_then}
 
 -- ---- room for the longest tables, and for the longest report
 
@@ -155,12 +157,13 @@ module _ (s : List ℕ) where
 
 -- ---- what the program prints
 
-pub refusal_of : (old o₁ o₂ new : List ℕ) (p q r number place : ℕ) → Wrote old 0 ((114 ∷ 101 ∷ 102 ∷ 117 ∷ 115 ∷ 101 ∷ 100 ∷ 32 ∷ []) ++ decimal number) labelled_room p o₁
-    → Wrote o₁ p ((32 ∷ 97 ∷ 116 ∷ 32 ∷ []) ++ decimal place) labelled_room q o₂ → Wrote o₂ q (10 ∷ []) 1 r new → Wrote old 0 (refusal_line number place) refusal_room r new
+pub refusal_of : (old o₁ o₂ new : Pen) (number place x : ℕ) → x ≡ number → Writes old ((114 ∷ 101 ∷ 102 ∷ 117 ∷ 115 ∷ 101 ∷ 100 ∷ 32 ∷ []) ++ decimal x) labelled_room o₁
+    → Writes o₁ ((32 ∷ 97 ∷ 116 ∷ 32 ∷ []) ++ decimal place) labelled_room o₂ → Writes o₂ (10 ∷ []) 1 new → Writes old (refusal_line number place) refusal_room new
 unfolding refusal_line
-refusal_of old o₁ o₂ new p q r number place a b c =
-    wrote_then old o₁ new 0 p r labelled_room (labelled_room + 1) refusal_room ((114 ∷ 101 ∷ 102 ∷ 117 ∷ 115 ∷ 101 ∷ 100 ∷ 32 ∷ []) ++ decimal number) (((32 ∷ 97 ∷ 116 ∷ 32 ∷ []) ++ decimal place) ++ newline) a
-    (wrote_then o₁ o₂ new p q r labelled_room 1 (labelled_room + 1) ((32 ∷ 97 ∷ 116 ∷ 32 ∷ []) ++ decimal place) newline b c (omega arith)) (omega arith)
+refusal_of old o₁ o₂ new number place x e a b c =
+    writes_then old o₁ new labelled_room (labelled_room + 1) refusal_room ((114 ∷ 101 ∷ 102 ∷ 117 ∷ 115 ∷ 101 ∷ 100 ∷ 32 ∷ []) ++ decimal number) (((32 ∷ 97 ∷ 116 ∷ 32 ∷ []) ++ decimal place) ++ newline)
+    (subst (λ (y : ℕ). Writes old ((114 ∷ 101 ∷ 102 ∷ 117 ∷ 115 ∷ 101 ∷ 100 ∷ 32 ∷ []) ++ decimal y) labelled_room o₁) e a)
+    (writes_then o₁ o₂ new labelled_room 1 (labelled_room + 1) ((32 ∷ 97 ∷ 116 ∷ 32 ∷ []) ++ decimal place) newline b c (omega arith)) (omega arith)
 
 module _ (s : List ℕ) where
   -- a report keeps the length of its room

@@ -3,7 +3,7 @@
 // fixes the text, byte for byte, or the refusal. `print` promises the text that the report program prints, the refusal's line too.
 #![tactic(auto)]
 
-ghost use Rattle.std.specs.Prelude.{◌≤◌};
+ghost use Rattle.std.specs.Prelude.{◌≡◌, ◌≤◌};
 ghost use Rattle.rules.specs.Limits.{tables_length};
 ghost use Rattle.rules.specs.File.{header_of, set_of};
 ghost use Rattle.rules.specs.Report.{report_text, refusal_line};
@@ -11,6 +11,7 @@ ghost use Rattle.rules.specs.Entries.Entry.{Promise};
 ghost use Rattle.rules.specs.Entries.Report.{report_entry};
 ghost use Rattle.rooms.specs.Rooms.{few_tables};
 ghost use Rattle.text.specs.Text.{Wrote};
+ghost use Rattle.text.specs.Pen.{Writes};
 ghost use Rattle.detections.specs.Detection.{Ready};
 ghost use Rattle.anyroom.specs.Laying.{Copied};
 ghost use Rattle.report.specs.Answer.{Made, Says, Printed, refusal_room};
@@ -20,7 +21,7 @@ use layout::header;
 use lines::write;
 use rules::{LengthAnswer, Network};
 use tables::tables;
-use text::{labelled, put};
+use text::Pen;
 
 // ---- the text into lent room
 
@@ -94,12 +95,22 @@ pub fn report(file: &[u8], text: &mut [u8]) -> LengthAnswer
 // ---- what the report program prints
 
 // The line of a refusal.
+fn refusal_line(pen: &mut Pen, refused: u8, place: usize)
+    requires { pen.old.at ≡ 0 }
+    ensures { Writes pen.old (refusal_line refused place) refusal_room pen.new }
+{
+    pen.labelled(b"refused ", usize::from(refused));
+    pen.labelled(b" at ", place);
+    pen.put(b'\n');
+}
+
+// The same from the text's first byte on; returns its length.
 fn refusal(text: &mut [u8], refused: u8, place: usize) -> usize
     ensures { Wrote text.old 0 (refusal_line refused place) refusal_room result text.new }
 {
-    let at = labelled(text, 0, b"refused ", refused as usize);
-    let end = labelled(text, at, b" at ", place);
-    put(text, end, b'\n')
+    let mut pen = Pen { text, at: 0 };
+    refusal_line(&mut pen, refused, place);
+    pen.at
 }
 
 // The length of the text, where the report was written; else the refusal's line.

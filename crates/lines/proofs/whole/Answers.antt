@@ -1,5 +1,5 @@
 use Rattle.lines.proofs.Wholes.{wholes}
-use Rattle.lines.proofs.write.Goals as goal
+use Rattle.lines.proofs.whole.Goals as goal
 
 pub returns : goal.returns
 returns c = search wholes

@@ -1,5 +1,5 @@
 use Rattle.report.proofs.Answers.{answers}
-use Rattle.report.proofs.refusal.Goals as goal
+use Rattle.report.proofs.refusal_line.Goals as goal
 
 pub returns : goal.returns
 returns c = search answers
