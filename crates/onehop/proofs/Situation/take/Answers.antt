@@ -1,5 +1,5 @@
 use Rattle.onehop.proofs.Hops.{hop}
-use Rattle.onehop.proofs.take.Goals as goal
+use Rattle.onehop.proofs.Situation.take.Goals as goal
 
 pub returns-then-p : goal.returns-then-p
 returns-then-p c = search hop

@@ -1,5 +1,5 @@
 use Rattle.onehop.proofs.Hops.{hop}
-use Rattle.onehop.proofs.detour.Goals as goal
+use Rattle.onehop.proofs.Routed.next.Goals as goal
 
 pub returns : goal.returns
 returns c = search hop

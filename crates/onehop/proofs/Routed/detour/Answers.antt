@@ -1,5 +1,5 @@
 use Rattle.onehop.proofs.Hops.{hop}
-use Rattle.onehop.proofs.detour_by.Goals as goal
+use Rattle.onehop.proofs.Routed.detour.Goals as goal
 
 pub returns-then-w-v : goal.returns-then-w-v
 returns-then-w-v c = search hop

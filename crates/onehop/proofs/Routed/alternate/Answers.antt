@@ -1,5 +1,5 @@
 use Rattle.onehop.proofs.Hops.{hop}
-use Rattle.onehop.proofs.entry.Goals as goal
+use Rattle.onehop.proofs.Routed.alternate.Goals as goal
 
 pub returns : goal.returns
 returns c = search hop
