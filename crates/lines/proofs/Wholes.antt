@@ -2,7 +2,7 @@
 use Rattle.std.specs.Prelude.{if◌then◌else◌}
 use mathlib.Core.Path.{◌≡◌, sym, ap, subst, ◌∙◌}
 use mathlib.Core.List.{List, [], ◌∷◌, ◌++◌, append_assoc}
-use Prim.Native.Nat.{ℕ, ◌+◌, ◌-◌, ◌*◌, ◌≤◌}
+use Prim.Native.Nat.{ℕ, ◌+◌, ◌-◌, ◌*◌, ◌≤◌, ◌<◌}
 use native.Mathlib.Numerals.{add-one}
 use native.Mathlib.Omega.{arith}
 use lib.Dec.{eqb}
@@ -13,7 +13,10 @@ use mir.Val.{Fits, to_z, of_z}
 use Rattle.rules.specs.declared.Network.{Network}
 use Rattle.rules.specs.declared.Kind.{Kind}
 use Rattle.rules.specs.Basics.{flat}
-use Rattle.rules.specs.File.{Set, set_of}
+use Rattle.rules.specs.File.{Set, header_of, set_of}
+use Rattle.rules.specs.Judgement.{take_set}
+use Rattle.rules.proofs.File.SetOfBytes.{net_held}
+use Rattle.rules.specs.declared.Verdict.TheVariants.{Accepted}
 use Rattle.rules.specs.Forwarding.{letter}
 use Rattle.rules.specs.Report.{decimal, signed, extra_hops, space, newline, header_line, detection_line, detection_lines, last_line, report_text}
 use Rattle.rules.proofs.Ground.Choices.{if_yes, if_no}
@@ -21,10 +24,10 @@ use Rattle.detections.specs.declared.Seen.{Seen}
 use Rattle.text.specs.declared.Pen.{Pen}
 use Rattle.text.specs.Text.{field, signed_room, field_room, labelled_room}
 use Rattle.text.specs.Pen.{Writes}
-use Rattle.detections.specs.Detection.{Ready, seen_by}
+use Rattle.detections.specs.Detection.{seen_by}
 use Rattle.lines.specs.Lines.{head_of, change_of, tail_of, line_of, line_for, node_lines, last_of, head_room, change_room, tail_room, line_room, node_room, lines_room, header_room, last_room, text_room}
 use Rattle.text.proofs.Texts.{writes_none, writes_then, writes_as, writes_few}
-use Rattle.detections.proofs.Seens.{same_net}
+use Rattle.detections.proofs.Seens.{nodes_least, nodes_most}
 use Rattle.lines.proofs.Extras.{read_back}
 
 -- ---- a line
@@ -90,13 +93,13 @@ pub node_more : (S : Set) (u t : ℕ) (old mid new : Pen) → Writes old (flat (
     → Writes old (flat (line_for S u) (t + 1)) (line_room * (t + 1)) new
 node_more S u t old mid new v w = rows_more (line_for S u) line_room (line_room * t) (line_room * (t + 1)) old mid new t v w (omega arith)
 
-pub node_done : (s tables : List ℕ) (net : Network) (u t : ℕ) (old new : Pen) → Ready s net tables → Writes old (flat (line_for (set_of s) u) t) (line_room * t) new → t ≤ net.n → net.n ≤ t
+pub node_done : (s : List ℕ) (net : Network) (u t : ℕ) (old new : Pen) → take_set s ≡ Accepted → net ≡ header_of s → Writes old (flat (line_for (set_of s) u) t) (line_room * t) new → t ≤ net.n → net.n ≤ t
     → Writes old (node_lines (set_of s) u) node_room new
 unfolding node_lines
-node_done s tables net u t old new R w a b =
+node_done s net u t old new c h w a b =
     let e : t ≡ net.n = omega arith in
-    writes_few old new (line_room * t) node_room (flat (line_for (set_of s) u) (set_of s).net.n) (omega (arith, R.most))
-    (subst (λ (x : ℕ). Writes old (flat (line_for (set_of s) u) x) (line_room * t) new) (e ∙ ap (λ (h : Network). h.n) (same_net s tables net R)) w)
+    writes_few old new (line_room * t) node_room (flat (line_for (set_of s) u) (set_of s).net.n) (omega (arith, nodes_most s net c h))
+    (subst (λ (x : ℕ). Writes old (flat (line_for (set_of s) u) x) (line_room * t) new) (e ∙ ap (λ (k : Network). k.n) (h ∙ sym (net_held s))) w)
 
 pub all_none : (S : Set) (pen : Pen) → Writes pen (flat (node_lines S) 0) (node_room * 0) pen
 unfolding flat
@@ -106,13 +109,17 @@ pub all_more : (S : Set) (u : ℕ) (old mid new : Pen) → Writes old (flat (nod
     → Writes old (flat (node_lines S) (u + 1)) (node_room * (u + 1)) new
 all_more S u old mid new v w = rows_more (node_lines S) node_room (node_room * u) (node_room * (u + 1)) old mid new u v w (omega arith)
 
-pub all_done : (s tables : List ℕ) (net : Network) (u : ℕ) (old new : Pen) → Ready s net tables → Writes old (flat (node_lines (set_of s)) u) (node_room * u) new → u ≤ net.n → net.n ≤ u
+-- where a node's lines begin
+pub row_low : (s : List ℕ) (net : Network) (u : ℕ) (old mid : Pen) (bytes : List ℕ) → take_set s ≡ Accepted → net ≡ header_of s → u < net.n → old.at ≤ header_room → Writes old bytes (node_room * u) mid → mid.at < 524288
+row_low s net u old mid bytes c h l a w = omega (arith, nodes_most s net c h, w.wrote.few)
+
+pub all_done : (s : List ℕ) (net : Network) (u : ℕ) (old new : Pen) → take_set s ≡ Accepted → net ≡ header_of s → Writes old (flat (node_lines (set_of s)) u) (node_room * u) new → u ≤ net.n → net.n ≤ u
     → Writes old (detection_lines (set_of s)) lines_room new
 unfolding detection_lines node_lines line_for
-all_done s tables net u old new R w a b =
+all_done s net u old new c h w a b =
     let e : u ≡ net.n = omega arith in
-    writes_few old new (node_room * u) lines_room (flat (node_lines (set_of s)) (set_of s).net.n) (omega (arith, R.most))
-    (subst (λ (x : ℕ). Writes old (flat (node_lines (set_of s)) x) (node_room * u) new) (e ∙ ap (λ (h : Network). h.n) (same_net s tables net R)) w)
+    writes_few old new (node_room * u) lines_room (flat (node_lines (set_of s)) (set_of s).net.n) (omega (arith, nodes_most s net c h))
+    (subst (λ (x : ℕ). Writes old (flat (node_lines (set_of s)) x) (node_room * u) new) (e ∙ ap (λ (k : Network). k.n) (h ∙ sym (net_held s))) w)
 
 -- ---- the whole text
 
@@ -125,13 +132,13 @@ last_of_laid old mid new n x e a b =
     (ap (λ (y : ℕ). 100 ∷ 101 ∷ 116 ∷ 101 ∷ 99 ∷ 116 ∷ 105 ∷ 111 ∷ 110 ∷ 115 ∷ 32 ∷ (decimal y ++ newline)) e)
     (writes_then old mid new labelled_room 1 last_room ((100 ∷ 101 ∷ 116 ∷ 101 ∷ 99 ∷ 116 ∷ 105 ∷ 111 ∷ 110 ∷ 115 ∷ 32 ∷ []) ++ decimal x) newline a b (omega arith))
 
-pub whole_of : (s tables : List ℕ) (net : Network) (old o₁ o₂ new : Pen) → Ready s net tables
+pub whole_of : (s : List ℕ) (net : Network) (old o₁ o₂ new : Pen) → net ≡ header_of s
     → Writes old header_line header_room o₁ → Writes o₁ (detection_lines (set_of s)) lines_room o₂ → Writes o₂ (last_of net.n) last_room new
     → Writes old (report_text (set_of s)) text_room new
 unfolding report_text last_of last_line
-whole_of s tables net old o₁ o₂ new R a b c =
-    let d : Writes o₂ (last_line (set_of s)) last_room new = subst (λ (h : Network). Writes o₂ (last_of h.n) last_room new) (same_net s tables net R) c in
+whole_of s net old o₁ o₂ new h a b c =
+    let d : Writes o₂ (last_line (set_of s)) last_room new = subst (λ (k : Network). Writes o₂ (last_of k.n) last_room new) (h ∙ sym (net_held s)) c in
     writes_then old o₁ new header_room (lines_room + last_room) text_room header_line (detection_lines (set_of s) ++ last_line (set_of s)) a
     (writes_then o₁ o₂ new lines_room last_room (lines_room + last_room) (detection_lines (set_of s)) (last_line (set_of s)) b d (omega arith)) (omega arith)
 
-pub ruleset wholes = (head_of_laid, change_of_laid, tail_of_laid, line_of_laid, own_line, other_line, node_none, node_more, node_done, all_none, all_more, all_done, last_of_laid, whole_of)
+pub ruleset wholes = (nodes_least, nodes_most, row_low, head_of_laid, change_of_laid, tail_of_laid, line_of_laid, own_line, other_line, node_none, node_more, node_done, all_none, all_more, all_done, last_of_laid, whole_of)

@@ -7,10 +7,10 @@ ghost use Rattle.rules.specs.File.{set_of};
 ghost use Rattle.rules.specs.Report.{header_line, detection_lines, report_text};
 ghost use Rattle.text.specs.Text.{Wrote};
 ghost use Rattle.text.specs.Pen.{Writes};
-ghost use Rattle.detections.specs.Detection.{Ready, Pair};
+ghost use Rattle.detections.specs.Detection.{Pair};
 ghost use Rattle.lines.specs.Lines.{head_of, change_of, tail_of, line_of, line_for, node_lines, last_of, head_room, change_room, tail_room, line_room, node_room, lines_room, header_room, last_room, text_room};
 
-use detections::{Seen, detect};
+use detections::{OwnTables, Seen};
 use rules::{Kind, Network};
 use text::{Pen, letter};
 
@@ -68,38 +68,35 @@ fn line(pen: &mut Pen, u: u8, t: u8, seen: Seen)
 // ---- the lines in order
 
 // Node u's line for t, or none where t is u itself.
-fn line_for(pen: &mut Pen, file: &[u8], net: Network, tables: &[u8], u: u8, t: u8)
-    requires ready { Ready file.now net tables.now }
-    requires pair { Pair net u t }
+fn line_for(pen: &mut Pen, set: &OwnTables, u: u8, t: u8)
+    requires pair { Pair set.now.routed.file.net u t }
     requires at_bound { pen.old.at < 1048576 }
-    ensures { Writes pen.old (line_for (set_of file.now) u t) line_room pen.new }
+    ensures { Writes pen.old (line_for (set_of set.now.routed.file.bytes.now) u t) line_room pen.new }
 {
     if u != t {
-        let seen = detect(file, net, tables, u, t);
+        let seen = set.detect(u, t);
         line(pen, u, t, seen);
     }
 }
 
 // Node u's lines, by destination.
-fn node_lines(pen: &mut Pen, file: &[u8], net: Network, tables: &[u8], u: u8)
-    requires ready { Ready file.now net tables.now }
-    requires u_lt_n { u < net.n }
+fn node_lines(pen: &mut Pen, set: &OwnTables, u: u8)
+    requires u_lt_n { u < set.now.routed.file.net.n }
     requires at_bound { pen.old.at < 524288 }
-    ensures { Writes pen.old (node_lines (set_of file.now) u) node_room pen.new }
+    ensures { Writes pen.old (node_lines (set_of set.now.routed.file.bytes.now) u) node_room pen.new }
 {
-    for t in 0..net.n {
-        line_for(pen, file, net, tables, u, t);
+    for t in 0..set.routed.file.net.n {
+        line_for(pen, set, u, t);
     }
 }
 
 // The lines of all nodes.
-fn all_lines(pen: &mut Pen, file: &[u8], net: Network, tables: &[u8])
-    requires ready { Ready file.now net tables.now }
-    requires at_le_header_room { pen.old.at ≤ header_room }
-    ensures { Writes pen.old (detection_lines (set_of file.now)) lines_room pen.new }
+fn all_lines(pen: &mut Pen, set: &OwnTables)
+    requires { pen.old.at ≤ header_room }
+    ensures { Writes pen.old (detection_lines (set_of set.now.routed.file.bytes.now)) lines_room pen.new }
 {
-    for u in 0..net.n {
-        node_lines(pen, file, net, tables, u);
+    for u in 0..set.routed.file.net.n {
+        node_lines(pen, set, u);
     }
 }
 
@@ -123,24 +120,22 @@ fn last_line(pen: &mut Pen, net: Network)
     pen.put(b'\n');
 }
 
-fn whole(pen: &mut Pen, file: &[u8], net: Network, tables: &[u8])
-    requires ready { Ready file.now net tables.now }
-    requires at_start { pen.old.at ≡ 0 }
-    ensures { Writes pen.old (report_text (set_of file.now)) text_room pen.new }
+fn whole(pen: &mut Pen, set: &OwnTables)
+    requires { pen.old.at ≡ 0 }
+    ensures { Writes pen.old (report_text (set_of set.now.routed.file.bytes.now)) text_room pen.new }
 {
     header(pen);
-    all_lines(pen, file, net, tables);
-    last_line(pen, net);
+    all_lines(pen, set);
+    last_line(pen, set.routed.file.net);
 }
 
 // The whole text of an accepted file's report; returns its length.
 // Rules out: n × (n - 2) in the last line `rules/fewer_detections`; two words of the first line exchanged
 // `header_words_swapped`.
-pub fn write(file: &[u8], net: Network, tables: &[u8], text: &mut [u8]) -> usize
-    requires { Ready file.now net tables.now }
-    ensures { Wrote text.old 0 (report_text (set_of file.now)) text_room result text.new }
+pub fn write(set: &OwnTables, text: &mut [u8]) -> usize
+    ensures { Wrote text.old 0 (report_text (set_of set.now.routed.file.bytes.now)) text_room result text.new }
 {
     let mut pen = Pen { text, at: 0 };
-    whole(&mut pen, file, net, tables);
+    whole(&mut pen, set);
     pen.at
 }
