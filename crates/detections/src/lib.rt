@@ -44,7 +44,13 @@ impl OwnTables<'_> {
             if u == t {
                 return hops;
             }
-            u = entry(self.routed.tables, self.routed.file.net, usize::from(i), u, t);
+            u = entry(
+                self.routed.tables,
+                self.routed.file.net,
+                usize::from(i),
+                u,
+                t,
+            );
         }
         most
     }
