@@ -2,7 +2,7 @@
 use Rattle.std.specs.Prelude.{if◌then◌else◌}
 use mathlib.Core.Path.{◌≡◌, refl, sym, ap, ap₂, subst, ◌∙◌}
 use mathlib.Core.Bool.{Bool, true, false}
-use mathlib.Core.List.{List}
+use mathlib.Core.List.{List, ◌++◌}
 use Prim.Native.Nat.{ℕ, zero, suc, ◌+◌, ◌-◌, ◌≤◌, ◌<◌}
 use native.Mathlib.Numerals.{add-one}
 use native.Mathlib.Omega.{arith}
@@ -13,13 +13,17 @@ use Rattle.rules.specs.declared.Network.{Network}
 use Rattle.rules.specs.declared.Kind.TheVariants as change
 use Rattle.rules.specs.declared.Step.{Step}
 use Rattle.rules.specs.declared.Step.TheVariants.{Moved}
+use Rattle.rules.specs.Verdict.{Accepted}
+use Rattle.rules.specs.Basics.{laid}
 use Rattle.rules.specs.Limits.{most_hops}
 use Rattle.rules.specs.File.{Set, header_of, set_of}
 use Rattle.rules.specs.Isolation.{home}
-use Rattle.rules.specs.Distance.{next_hop}
+use Rattle.rules.specs.Distance.{next_hop, table_bytes}
+use Rattle.rules.specs.Judgement.{take_set}
 use Rattle.rules.specs.Forwarding.{tables_of, entry_place, lent_tables, packet}
 use Rattle.rules.specs.Report.{packet_of, kind_of, detection, backup_hops, plain_hops}
 use Rattle.rules.proofs.Ground.Choices.{if_yes, if_no}
+use Rattle.rules.proofs.Ground.Rows.{laid_rest}
 use Rattle.rules.proofs.File.SetOfBytes.{net_held}
 use Rattle.rules.proofs.File.TakenIn.{set_accepted}
 use Rattle.rules.proofs.Isolation.Homes.{home_high}
@@ -58,21 +62,47 @@ module _ (tables : List ℕ) (net : Network) (i t : ℕ) where
       let all : most - 0 ≡ most = omega arith in
       record { few = omega arith; rest = omega (arith, ap (λ (x : ℕ). walk_hops tables net i t x from) all) }
 
-  pub walk_goes_on : (most from h u v : ℕ) → v ≡ get_or tables (entry_place net i u t) 0 → Walking tables net i t most from h u → (u ≡ t → ⊥) → h < most → Walking tables net i t most from (h + 1) v
-  walk_goes_on most from h u v e W ne l =
+  pub walk_goes_on : (most from h u v j : ℕ) → j ≡ i → v ≡ get_or tables (entry_place net j u t) 0 → Walking tables net i t most from h u → (u ≡ t → ⊥) → h < most → Walking tables net i t most from (h + 1) v
+  walk_goes_on most from h u v j q e W ne l =
       let one : most - h ≡ suc (most - (h + 1)) = omega arith in
-      let on = ap (λ (x : ℕ). walk_hops tables net i t x u) one ∙ walk_on (most - (h + 1)) u ne ∙ ap (λ (x : ℕ). suc (walk_hops tables net i t (most - (h + 1)) x)) (sym e) in
+      let there : v ≡ get_or tables (entry_place net i u t) 0 = e ∙ ap (λ (k : ℕ). get_or tables (entry_place net k u t) 0) q in
+      let on = ap (λ (x : ℕ). walk_hops tables net i t x u) one ∙ walk_on (most - (h + 1)) u ne ∙ ap (λ (x : ℕ). suc (walk_hops tables net i t (most - (h + 1)) x)) (sym there) in
       record { few = omega arith; rest = omega (arith, W.rest) }
 
   pub walk_arrives : (most from h u : ℕ) → Walking tables net i t most from h u → u ≡ t → Walked tables net i from t most h
   walk_arrives most from h u W e = record { is = omega (arith, W.rest, walk_there (most - h) u e); few = W.few }
 
-  pub walk_stops : (most from h u : ℕ) → Walking tables net i t most from h u → most ≤ h → Walked tables net i from t most h
+  pub walk_stops : (most from h u : ℕ) → Walking tables net i t most from h u → most ≤ h → Walked tables net i from t most most
   walk_stops most from h u W l =
+      let few = W.few in
       let z : most - h ≡ 0 = omega arith in
-      record { is = omega (arith, W.rest, ap (λ (x : ℕ). walk_hops tables net i t x u) z, walk_none u); few = W.few }
+      record { is = omega (arith, W.rest, ap (λ (x : ℕ). walk_hops tables net i t x u) z, walk_none u); few = omega arith }
 
 -- ---- by the file's own tables
+
+laid_twice : (new old : List ℕ) → laid new (laid new old) ≡ laid new old
+unfolding laid
+laid_twice new old = ap (λ (l : List ℕ). new ++ l) (laid_rest new old)
+
+-- tables that lie at the front of what was lent are those that they would be laid over by themselves
+pub ready_own : (s tables : List ℕ) (net : Network) → Ready s net tables → laid (table_bytes (set_of s)) tables ≡ tables
+ready_own s tables net R = ap (laid (table_bytes (set_of s))) R.made ∙ laid_twice (table_bytes (set_of s)) R.before ∙ sym R.made
+
+-- the limits of an accepted file's header
+module _ (s : List ℕ) (net : Network) (c : take_set s ≡ Accepted) (h : net ≡ header_of s) where
+  pub nodes_least : 3 ≤ net.n
+  nodes_least = rw (h, ← net_held s) (set_accepted s c).rules.limits.nodes.0
+
+  pub nodes_most : net.n ≤ 32
+  nodes_most = rw (h, ← net_held s) (set_accepted s c).rules.limits.nodes.1
+
+  pub some_hops : (most : ℕ) → most ≡ most_hops net → 1 ≤ most
+  unfolding most_hops
+  some_hops most e = omega (arith, nodes_least)
+
+pub own_ready : (s tables : List ℕ) (net : Network) → take_set s ≡ Accepted → net ≡ header_of s → laid (table_bytes (set_of s)) tables ≡ tables → Ready s net tables
+own_ready s tables net c h e =
+    record { accepted = c; header = h; before = tables; made = sym e; least = nodes_least s net c h; most = nodes_most s net c h }
 
 module _ (s tables : List ℕ) (net : Network) (R : Ready s net tables) where
   pub ready_header : net ≡ header_of s
@@ -157,4 +187,4 @@ module _ (s tables : List ℕ) (net : Network) (R : Ready s net tables) where
 
 pub ruleset walks = (walk_begins, walk_goes_on, walk_arrives, walk_stops)
 
-pub ruleset seens = (ready_header, seen_of)
+pub ruleset seens = (own_ready, nodes_least, nodes_most, some_hops, seen_of)

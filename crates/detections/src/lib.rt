@@ -5,11 +5,15 @@
 #![tactic(auto)]
 
 ghost use Rattle.std.specs.Prelude.{◌≡◌};
+ghost use Rattle.rules.specs.Verdict.{Accepted};
+ghost use Rattle.rules.specs.Basics.{laid};
 ghost use Rattle.rules.specs.File.{set_of};
-ghost use Rattle.detections.specs.Detection.{Ready, Pair, Walked, seen_by};
+ghost use Rattle.rules.specs.Distance.{table_bytes};
+ghost use Rattle.rules.specs.Judgement.{take_set};
+ghost use Rattle.detections.specs.Detection.{Pair, Walked, seen_by};
 
-use onehop::{detour, entry};
-use rules::{Kind, Network};
+use onehop::{Routed, entry};
+use rules::Kind;
 
 // The fields of a line after its node and destination; `plain` are the hops in topology 0.
 #[derive(Clone, Copy)]
@@ -22,45 +26,57 @@ pub struct Seen {
     pub plain: u8,
 }
 
-// How many next hops of topology i lead from a node to t, of at most so many.
-fn walk(tables: &[u8], net: Network, i: u8, from: u8, t: u8, most: u8) -> u8
-    ensures { Walked tables.now net i from t most result }
-{
-    let mut u = from;
-    let mut hops: u8 = 0;
-    while u != t {
-        if most <= hops {
-            return hops;
-        }
-        u = entry(tables, net, i as usize, u, t);
-        hops += 1;
-    }
-    hops
+// The network of an accepted set's file, with its own tables.
+#[derive(Clone, Copy)]
+pub struct OwnTables<'a> {
+    pub routed: Routed<'a>,
+    ghost accepted: { take_set routed.file.bytes.now ≡ Accepted },
+    ghost own: { laid (table_bytes (set_of routed.file.bytes.now)) routed.tables.now ≡ routed.tables.now },
 }
 
-// What node u sees of a packet for t where the link to its next hop is down: the link's number is not looked for, as the node only
-// sees that it cannot reach its next hop.
-// Rules out: the hops in topology 0 counted in the one changed to `plain_hops_in_the_backup_topology`; hops counted with nothing
-// down `hops_with_nothing_down`.
-pub fn detect(file: &[u8], net: Network, tables: &[u8], u: u8, t: u8) -> Seen
-    requires ready { Ready file.now net tables.now }
-    requires pair { Pair net u t }
-    requires fact { u ≡ t → ⊥ }
-    ensures { result ≡ seen_by (set_of file.now) u t }
-{
-    let via = entry(tables, net, 0, u, t);
-    let d = detour(file, net, tables, u, t, via);
-    let most = net.most_hops();
-    let rest = walk(tables, net, d.topology, d.next, t, most - 1);
-    let hops = rest + 1;
-    let plain = walk(tables, net, 0, u, t, most);
-    let kind = d.kind;
-    Seen {
-        via,
-        kind,
-        topology: d.topology,
-        next: d.next,
-        hops,
-        plain,
+impl OwnTables<'_> {
+    // How many next hops of topology i lead from a node to t, of at most so many.
+    fn walk(&self, i: u8, from: u8, t: u8, most: u8) -> u8
+        ensures { Walked self.now.routed.tables.now self.now.routed.file.net i from t most result }
+    {
+        let mut u = from;
+        for hops in 0..most {
+            if u == t {
+                return hops;
+            }
+            u = entry(
+                self.routed.tables,
+                self.routed.file.net,
+                usize::from(i),
+                u,
+                t,
+            );
+        }
+        most
+    }
+
+    // What node u sees of a packet for t where the link to its next hop is down: the link's number is not looked for, as the node only
+    // sees that it cannot reach its next hop.
+    // Rules out: the hops in topology 0 counted in the one changed to `plain_hops_in_the_backup_topology`; hops counted with nothing
+    // down `hops_with_nothing_down`.
+    pub fn detect(&self, u: u8, t: u8) -> Seen
+        requires pair { Pair self.now.routed.file.net u t }
+        requires fact { u ≡ t → ⊥ }
+        ensures { result ≡ seen_by (set_of self.now.routed.file.bytes.now) u t }
+    {
+        let net = self.routed.file.net;
+        let via = entry(self.routed.tables, net, 0, u, t);
+        let d = self.routed.detour(u, t, via);
+        let most = net.most_hops();
+        let hops = self.walk(d.topology, d.next, t, most - 1) + 1;
+        let plain = self.walk(0, u, t, most);
+        Seen {
+            via,
+            kind: d.kind,
+            topology: d.topology,
+            next: d.next,
+            hops,
+            plain,
+        }
     }
 }

@@ -1,5 +1,5 @@
 -- First fit as it runs: what the proofs of its functions cite.
-use mathlib.Core.Path.{◌≡◌, refl, sym, ap, ◌∙◌}
+use mathlib.Core.Path.{◌≡◌, refl, sym, ap, subst, ◌∙◌}
 use mathlib.Core.Bool.{Bool, true, false, ◌&&◌, ◌||◌, and-false, or-true, or-false, true≢false}
 use mathlib.Core.List.{List}
 use Prim.Native.Nat.{ℕ, suc, ◌+◌, ◌-◌, ◌≤◌, ◌<◌, max}
@@ -165,10 +165,10 @@ unfolding homes_by
 placing_none nb homes n cap e few =
     rw e (record { long = length-replicate {A = ℕ} n 0; wide = length-replicate {A = ℕ} 32 0; words = isos_none n few; homes_are = refl; later = λ u l. homeless_at n u; each = λ u l. absurd (omega arith) })
 
-pub placing_more : (nb homes isos new : List ℕ) (n cap v i : ℕ) (t : Bool) → Placing nb n cap homes isos v → Tried nb n cap homes v i → n ≤ 32 → v < n → cap ≤ 32 → i ≤ cap
+placing_there : (nb homes isos new : List ℕ) (n cap v i : ℕ) (t : Bool) → Placing nb n cap homes isos v → Tried nb n cap homes v i → n ≤ 32 → v < n → cap ≤ 32 → i ≤ cap
     → t ≡ word_admits nb n (get_or isos (i - 1) 0) v → t ≡ true → new ≡ entered isos (i - 1) v → Placing nb n cap (set homes v i) new (v + 1)
 unfolding homes_by entered
-placing_more nb homes isos new n cap v i t P T few lv small h ea p e =
+placing_there nb homes isos new n cap v i t P T few lv small h ea p e =
     let lo = T.low in
     let a = admits_is nb homes isos n v i t P.words lo (omega arith) ea in
     let q = tried_found nb homes n cap v i T h (sym a ∙ p) in
@@ -185,28 +185,28 @@ placing_more nb homes isos new n cap v i t P T few lv small h ea p e =
     go q u l true z = rw (eqb-true u v z, ← P.homes_are, ← q) h
     go q u l false z = let ne = eqb-false u v z in P.each u (omega arith)
 
-pub placed_all : (nb homes isos : List ℕ) (n cap v : ℕ) → Placing nb n cap homes isos v → v ≤ n → n ≤ v → Placed nb n cap homes v
-placed_all nb homes isos n cap v P h g = record { within = h; long = P.long; homes_are = P.homes_are; each = P.each; passed = λ l. absurd (omega arith) }
+pub placing_more : (nb homes isos new : List ℕ) (n cap v at i : ℕ) (t : Bool) → at ≡ v → Placing nb n cap homes isos v → Tried nb n cap homes v i → n ≤ 32 → v < n → cap ≤ 32 → i ≤ cap
+    → t ≡ word_admits nb n (get_or isos (i - 1) 0) v → t ≡ true → new ≡ entered isos (i - 1) v → Placing nb n cap (set homes at i) new (v + 1)
+placing_more nb homes isos new n cap v at i t w P T few lv small h ea p e =
+    subst (λ (x : ℕ). Placing nb n cap (set homes x i) new (v + 1)) (sym w) (placing_there nb homes isos new n cap v i t P T few lv small h ea p e)
 
-pub placed_part : (nb homes isos : List ℕ) (n cap v i : ℕ) → Placing nb n cap homes isos v → v ≤ n → Tried nb n cap homes v i → cap < i → Placed nb n cap homes v
-placed_part nb homes isos n cap v i P h T g =
-    record { within = h; long = P.long; homes_are = P.homes_are; each = P.each; passed = λ l. rw (← P.homes_are) (tried_out nb homes n cap v i T g) }
+pub placed_all : (nb homes isos : List ℕ) (n cap v r : ℕ) → r ≡ v → Placing nb n cap homes isos v → v ≤ n → n ≤ v → Placed nb n cap homes r
+placed_all nb homes isos n cap v r e P h g =
+    subst (Placed nb n cap homes) (sym e) (record { within = h; long = P.long; homes_are = P.homes_are; each = P.each; passed = λ l. absurd (omega arith) })
+
+pub placed_part : (nb homes isos : List ℕ) (n cap v i r : ℕ) → r ≡ v → Placing nb n cap homes isos v → v < n → Tried nb n cap homes v i → cap < i → Placed nb n cap homes r
+placed_part nb homes isos n cap v i r e P h T g =
+    subst (Placed nb n cap homes) (sym e) (record { within = omega arith; long = P.long; homes_are = P.homes_are; each = P.each; passed = λ l. rw (← P.homes_are) (tried_out nb homes n cap v i T g) })
 
 -- ---- highest
-
-pub larger_second : (a b : ℕ) → a < b → b ≡ max a b
-larger_second a b h = omega arith
-
-pub larger_first : (a b : ℕ) → b ≤ a → a ≡ max a b
-larger_first a b h = omega arith
 
 pub highest_none : (homes : List ℕ) → 0 ≡ highest homes 0
 unfolding highest
 highest_none homes = refl
 
-pub highest_more : (homes : List ℕ) (v t h r : ℕ) → t ≡ highest homes v → h ≡ get_or homes v 0 → r ≡ max t h → r ≡ highest homes (v + 1)
+pub highest_more : (homes : List ℕ) (v t r : ℕ) → t ≡ highest homes v → r ≡ max t (get_or homes v 0) → r ≡ highest homes (v + 1)
 unfolding highest
-highest_more homes v t h r et eh er = er ∙ rw (et, eh, add-one)
+highest_more homes v t r et er = er ∙ rw (et, add-one)
 
 pub highest_done : (homes : List ℕ) (v t : ℕ) → t ≡ highest homes v → v ≤ length homes → length homes ≤ v → t ≡ highest homes (length homes)
 highest_done homes v t e h g = let q : v ≡ length homes = omega arith in e ∙ ap (highest homes) q

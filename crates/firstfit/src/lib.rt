@@ -4,12 +4,11 @@
 // topology used. That this is first fit of 01 is shown in proofs/.
 #![tactic(auto)]
 
-ghost use Rattle.std.specs.Prelude.{◌≡◌, ◌-◌, ◌<◌, ◌≤◌, max, length, get_or, replicate};
+ghost use Rattle.std.specs.Prelude.{◌≡◌, ◌-◌, ◌<◌, ◌≤◌, length, get_or, replicate};
 ghost use Rattle.rules.specs.Building.{highest};
 ghost use Rattle.firstfit.specs.Fit.{spared_by, all_spared, word_admits, Placed};
 
 use rules::Network;
-use slices::entry;
 use topologyrules::{backbone, connected, enter, topology_rule};
 use words::{adding, only};
 
@@ -31,12 +30,8 @@ pub fn all_spared(nb: &[u32], n: u8) -> bool
     requires { (1 ≤ n) × (n ≤ 32) }
     ensures { result ≡ all_spared nb.now n n }
 {
-    let mut v: u8 = 0;
-    while v < n {
-        let ok = spared(nb, n, v);
-        if ok {
-            v += 1;
-        } else {
+    for v in 0..n {
+        if !spared(nb, n, v) {
             return false;
         }
     }
@@ -68,31 +63,23 @@ pub fn first_fit(nb: &[u32], n: u8, cap: u8, homes: &mut [u8]) -> u8
     ensures { Placed nb.now n cap homes.new result }
 {
     let mut isos = [0u32; Network::MOST_TOPOLOGIES];
-    let mut v: u8 = 0;
-    'build: while v < n {
+    let mut placed: u8 = 0;
+    'build: for v in 0..n {
         let mut i: u8 = 1;
         let home = loop {
             if i > cap {
                 break 'build;
             }
-            let ok = admits(nb, n, &isos, i, v);
-            if ok {
+            if admits(nb, n, &isos, i, v) {
                 break i;
             }
             i += 1;
         };
-        let at = v as usize;
-        homes[at] = home;
+        homes[usize::from(v)] = home;
         enter(&mut isos, home - 1, v);
-        v += 1;
+        placed += 1;
     }
-    v
-}
-
-fn larger(a: u8, b: u8) -> u8
-    ensures { result ≡ max a b }
-{
-    if a < b { b } else { a }
+    placed
 }
 
 // The highest topology used.
@@ -101,10 +88,8 @@ pub fn highest(homes: &[u8]) -> u8
     ensures { result ≡ highest homes.now (length homes.now) }
 {
     let mut top: u8 = 0;
-    let mut v: usize = 0;
-    while v < homes.len() {
-        top = larger(top, entry(homes, v));
-        v += 1;
+    for home in homes {
+        top = top.max(*home);
     }
     top
 }

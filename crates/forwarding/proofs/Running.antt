@@ -18,7 +18,7 @@ use Rattle.rules.specs.Limits.{tables_length, most_hops, trail_room}
 use Rattle.rules.specs.File.{header_of, set_of}
 use Rattle.rules.specs.Distance.{table_bytes}
 use Rattle.rules.specs.Forwarding.{fault_of, tables_of, lent_tables, packet, Run, trail, run, run_under}
-use Rattle.rules.specs.Judgement.{refuse, and_then, take_set, need_packet, need_source, need_room}
+use Rattle.rules.specs.Judgement.{judge, refuse, and_then, take_set, need_packet, need_source, need_room}
 use Rattle.rules.specs.Answers.{tell, journey_values, run_tells, tells}
 use Rattle.rules.specs.Entries.Entry.{on_accept, Promise}
 use Rattle.rules.specs.Entries.Run.{RunLent, run_of, run_values, run_entry}
@@ -29,7 +29,7 @@ use Rattle.rules.proofs.File.SetOfBytes.{net_held}
 use Rattle.rules.proofs.File.TakenIn.{set_file, set_accepted}
 use Rattle.rules.proofs.Forwarding.Runs.{Within}
 use Rattle.rules.proofs.Forwarding.LentTables.{bytes_long, lent_agree, run_same}
-use Rattle.linkstate.specs.Links.{Judged, on}
+use Rattle.linkstate.specs.Links.{on}
 use Rattle.travel.specs.Trip.{run_at, journey_of, RunsAs}
 use Rattle.forwarding.specs.Runs.{run_input, run_lent, run_verdict, Ready, Ran}
 
@@ -63,8 +63,8 @@ tables_fit s start tables nodes h bytes e n R = rw (e, n) R.long
 pub tables_part : (s : List ℕ) (start : Packet) (tables nodes : List ℕ) (h : Network) (bytes : ℕ) → bytes ≡ tables_length h → h ≡ header_of s → Ready s start tables nodes → length (take bytes tables) ≡ tables_length h
 tables_part s start tables nodes h bytes e n R = length-take-le bytes tables (tables_fit s start tables nodes h bytes e n R) ∙ e
 
-pub run_judged : (s : List ℕ) (start : Packet) (tables nodes : List ℕ) (h : Network) → h ≡ header_of s → Ready s start tables nodes → Judged s h
-run_judged s start tables nodes h n R = record { accepted = set_file s R.set; header = n }
+pub run_judged : (s : List ℕ) (start : Packet) (tables nodes : List ℕ) → Ready s start tables nodes → judge s ≡ Accepted
+run_judged s start tables nodes R = set_file s R.set
 
 pub is_set : (s : List ℕ) (start : Packet) (tables nodes : List ℕ) → Ready s start tables nodes → take_set s ≡ Accepted
 is_set s start tables nodes R = R.set

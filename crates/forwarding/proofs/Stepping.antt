@@ -18,18 +18,13 @@ use Rattle.rules.specs.Answers.{tell, step_tells, tells}
 use Rattle.rules.specs.Entries.Entry.{on_accept, Promise}
 use Rattle.rules.specs.Entries.Step.{lookups_of, step_of, step_entry}
 use Rattle.rules.proofs.Ground.Choices.{then_first, then_on, then_stop}
-use Rattle.linkstate.specs.Links.{Judged}
 use Rattle.onehop.specs.Hop.{step_at, lookup_at}
 use Rattle.forwarding.specs.Steps.{step_input, step_rest, step_verdict}
 
--- the judge accepted the file
-pub judge_on : (s : List ℕ) (u : Verdict) (h : Network) → u ≡ judge s → u ≡ Accepted → h ≡ header_of s → Judged s h
-judge_on s u h e t n = record { accepted = sym e ∙ t; header = n }
-
 module _ (s tables : List ℕ) (p : Packet) (f : Failure) where
-  pub step_on : (u : Verdict) (h : Network) → u ≡ step_verdict (step_input s tables p f) → u ≡ Accepted → h ≡ header_of s → Judged s h
+  pub step_on : (u : Verdict) → u ≡ step_verdict (step_input s tables p f) → u ≡ Accepted → judge s ≡ Accepted
   unfolding step_verdict
-  step_on u h e t n = record { accepted = then_first (judge s) (step_rest (step_input s tables p f)) (sym e ∙ t); header = n }
+  step_on u e t = then_first (judge s) (step_rest (step_input s tables p f)) (sym e ∙ t)
 
   -- the five verdicts that follow the judge's, as the code has them
   pub rest_is : (h : Network) (set range source room lookups a b c v : Verdict) (long number : ℕ) → h ≡ header_of s → set ≡ need_set h → range ≡ need_packet h p f → source ≡ need_source p.place f
@@ -38,9 +33,9 @@ module _ (s tables : List ℕ) (p : Packet) (f : Failure) where
   unfolding step_rest need_room
   rest_is h set range source room lookups a b c v long number n e1 e2 e3 e4 e5 e6 e7 d1 d2 d3 d4 = cc (ap need_set n, ap (λ (k : Network). need_packet k p f) n, ap tables_length n)
 
-  pub verdict_on : (u v : Verdict) → u ≡ Accepted → u ≡ judge s → v ≡ step_rest (step_input s tables p f) → v ≡ step_verdict (step_input s tables p f)
+  pub verdict_on : (u v : Verdict) (s' t' : List ℕ) (f' : Failure) → u ≡ Accepted → u ≡ judge s → s' ≡ s → t' ≡ tables → f' ≡ f → v ≡ step_rest (step_input s' t' p f') → v ≡ step_verdict (step_input s tables p f)
   unfolding step_verdict
-  verdict_on u v t e d = then_on u v (judge s) (step_rest (step_input s tables p f)) t e d
+  verdict_on u v s' t' f' t e a b c d = then_on u v (judge s) (step_rest (step_input s tables p f)) t e (d ∙ λ i. step_rest (step_input (a i) (b i) p (c i)))
 
   pub verdict_stop : (u : Verdict) (number place : ℕ) → u ≡ Refused number place → u ≡ judge s → u ≡ step_verdict (step_input s tables p f)
   unfolding step_verdict
@@ -62,4 +57,4 @@ module _ (s tables : List ℕ) (p : Packet) (f : Failure) where
       let z : step_entry.verdict (step_input s tables p f) tt ≡ Refused number place = verdict_same ∙ sym e ∙ t in
       record { answer = rw z; lent = refl }
 
-pub ruleset stepping = (judge_on, step_on, rest_is, verdict_on, verdict_stop, step_taken, step_refused)
+pub ruleset stepping = (step_on, rest_is, verdict_on, verdict_stop, step_taken, step_refused)

@@ -4,50 +4,78 @@
 // among the refusals; a step does not repeat them.
 #![tactic(auto)]
 
-ghost use Rattle.std.specs.Prelude.{◌≡◌};
+ghost use Rattle.std.specs.Prelude.{◌≡◌, ◌<◌, length};
 ghost use Rattle.rules.specs.File.{header_of};
 ghost use Rattle.rules.specs.Entries.Entry.{Promise};
 ghost use Rattle.rules.specs.Entries.Step.{step_entry};
 ghost use Rattle.rules.specs.Entries.Run.{run_entry};
-ghost use Rattle.linkstate.specs.Links.{Judged};
+ghost use Rattle.rules.specs.Judgement.{judge};
+ghost use Rattle.rules.specs.Verdict.{Accepted};
+ghost use Rattle.onehop.specs.Hop.{step_at};
+ghost use Rattle.travel.specs.Trip.{RunsAs};
 ghost use Rattle.forwarding.specs.Steps.{step_input, step_rest, step_verdict};
 ghost use Rattle.forwarding.specs.Runs.{run_input, run_lent, run_verdict, Ready, Ran};
 
 use intake::take_set;
 use judgement::judge;
 use layout::header;
+use linkstate::NetworkFile;
 use needs::{need_packet, need_room, need_set, need_source, refuse, then};
-use onehop::{lookup_number, take};
-use rules::{Failure, Journey, Network, Packet, RunAnswer, StepAnswer, Verdict};
+use onehop::{Routed, Situation};
+use rules::{Failure, Journey, Network, Packet, RunAnswer, Step, StepAnswer, Verdict};
 use travel::travel;
 
 // ---- step
 
-// What is asked once the file is accepted: 13, 11, 12, 14, 15.
-fn step_rest(file: &[u8], net: Network, tables: &[u8], packet: Packet, failure: Failure) -> Verdict
-    requires { Judged file.now net }
-    ensures { result ≡ step_rest (step_input file.now tables.now packet failure) }
+// An accepted file's network, with these tables and what is down.
+fn situation<'a>(file: &'a [u8], tables: &'a [u8], failure: Failure) -> Situation<'a>
+    requires { judge file.now ≡ Accepted }
+    ensures file { result.routed.file.bytes.now ≡ file.now }
+    ensures tables { result.routed.tables.now ≡ tables.now }
+    ensures failure { result.failure ≡ failure }
 {
+    let file = NetworkFile {
+        bytes: file,
+        net: header(file),
+    };
+    let routed = Routed { file, tables };
+    Situation { routed, failure }
+}
+
+// What is asked once the file is accepted: 13, 11, 12, 14, 15.
+fn step_rest(situation: &Situation, packet: Packet) -> Verdict
+    ensures { result ≡ step_rest (step_input situation.now.routed.file.bytes.now situation.now.routed.tables.now packet situation.now.failure) }
+{
+    let net = situation.routed.file.net;
+    let failure = situation.failure;
     let set = need_set(net);
     let range = need_packet(net, packet, failure);
     let source = need_source(packet.place, failure);
-    let room = need_room(net.tables_length(), tables.len());
-    let number = lookup_number(file, net, tables, failure, packet);
+    let room = need_room(net.tables_length(), situation.routed.tables.len());
+    let number = situation.lookup_number(packet);
     let lookups = refuse(number, 0);
     then(set, then(range, then(source, then(room, lookups))))
 }
 
-fn step_verdict(file: &[u8], tables: &[u8], packet: Packet, failure: Failure) -> Verdict
+fn step_verdict<'a>(file: &'a [u8], tables: &'a [u8], packet: Packet, failure: Failure) -> Verdict
     ensures { result ≡ step_verdict (step_input file.now tables.now packet failure) }
 {
     let v = judge(file);
     match v {
-        Verdict::Accepted => step_rest(file, header(file), tables, packet, failure),
+        Verdict::Accepted => step_rest(&situation(file, tables, failure), packet),
         Verdict::Refused {
             number: _,
             place: _,
         } => v,
     }
+}
+
+// The step that an accepted call makes.
+fn step_taken<'a>(file: &'a [u8], tables: &'a [u8], packet: Packet, failure: Failure) -> Step
+    requires { judge file.now ≡ Accepted }
+    ensures { result ≡ step_at file.now tables.now failure packet }
+{
+    situation(file, tables, failure).take(packet)
 }
 
 // One step of a packet by the tables that are lent, as they are.
@@ -58,7 +86,7 @@ pub fn step(file: &[u8], tables: &[u8], packet: Packet, failure: Failure) -> Ste
 {
     let v = step_verdict(file, tables, packet, failure);
     match v {
-        Verdict::Accepted => StepAnswer::Taken(take(file, header(file), tables, failure, packet)),
+        Verdict::Accepted => StepAnswer::Taken(step_taken(file, tables, packet, failure)),
         Verdict::Refused { number, place } => StepAnswer::Refused { number, place },
     }
 }
@@ -89,6 +117,22 @@ fn run_verdict(
     then(set, then(range, then(from, then(room, nodes))))
 }
 
+// The run by tables that are made already.
+fn travel_by<'a>(
+    file: &'a [u8],
+    tables: &'a [u8],
+    failure: Failure,
+    start: Packet,
+    most: u8,
+    trail: &mut [u8],
+) -> Journey
+    requires accepted { judge file.now ≡ Accepted }
+    requires most_in_bounds { most < length trail.old }
+    ensures { RunsAs file.now tables.now failure start most trail.old result trail.new }
+{
+    travel(&situation(file, tables, failure), start, most, trail)
+}
+
 // The run of an accepted call: the tables are made in the lent room, and then the packet travels by them.
 fn run_in(
     file: &[u8],
@@ -104,7 +148,7 @@ fn run_in(
 {
     let long = net.tables_length();
     tablefilling::fill(file, net, &mut tables[..long]);
-    travel(file, net, tables, failure, start, net.most_hops(), trail)
+    travel_by(file, tables, failure, start, net.most_hops(), trail)
 }
 
 // A packet's run from a source to its destination, with something down or nothing.

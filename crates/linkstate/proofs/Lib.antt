@@ -1,2 +1,3 @@
--- Which link joins two nodes and what is up, read off a file's bytes.
+-- Which link joins two nodes, a node's home and what is up, read off a file's bytes.
 pub mod Graph
+pub mod Homes

@@ -29,13 +29,13 @@ pub entry_is : (tables : List ℕ) (h : Network) (i u t place x : ℕ) → place
 entry_is tables h i u t place x e d = d ∙ ap (λ (k : ℕ). get_or tables k 0) e
 
 module _ (s tables : List ℕ) (h : Network) (n : h ≡ header_of s) where
-  next_is : (i u t x : ℕ) → x ≡ get_or tables (entry_place h i u t) 0 → x ≡ (tables_at s tables).next i u t
+  pub next_is : (i j u t x : ℕ) → j ≡ i → x ≡ get_or tables (entry_place h j u t) 0 → x ≡ (tables_at s tables).next i u t
   unfolding lent_tables
-  next_is i u t x e = e ∙ ap (λ (k : Network). get_or tables (entry_place k i u t) 0) n
+  next_is i j u t x d e = e ∙ ap₂ (λ (k : Network) (a : ℕ). get_or tables (entry_place k a u t) 0) n d
 
-  alternate_is : (u v x : ℕ) → x ≡ get_or tables (entry_place h (h.k + 1) u v) 0 → x ≡ (tables_at s tables).alternate u v
+  pub alternate_is : (k u v x : ℕ) → k ≡ h.k → x ≡ get_or tables (entry_place h (k + 1) u v) 0 → x ≡ (tables_at s tables).alternate u v
   unfolding lent_tables
-  alternate_is u v x e = e ∙ ap (λ (k : Network). get_or tables (entry_place k (k.k + 1) u v) 0) n
+  alternate_is k u v x d e = e ∙ ap (λ (a : ℕ). get_or tables (entry_place h (a + 1) u v) 0) d ∙ ap (λ (k : Network). get_or tables (entry_place k (k.k + 1) u v) 0) n
 
 -- ---- the step
 
@@ -58,24 +58,22 @@ kind_other t v e = sym (if_no (eqb t v) _ _ (ne_eqb t v e))
 abbrev detour : ℕ → ℕ → Kind → Change
 detour x j kind = record { next = x; topology = j; kind = kind }
 
-module _ (s tables : List ℕ) (h : Network) (n : h ≡ header_of s) (u t v w : ℕ) where
-  -- the next hop in v's home topology is v again: the alternate for v, in the node's own home topology
-  pub detour_back : (x j : ℕ) → x ≡ get_or tables (entry_place h (h.k + 1) u v) 0 → j ≡ home (set_of s) u → w ≡ v
-      → record { next = x; topology = j; kind = change.D } ≡ detour_by (set_of s) (tables_at s tables) u t v w
-  unfolding detour_by
-  detour_back x j d g e =
-      ap₂ (λ (a b : ℕ). detour a b change.D) (alternate_is s tables h n u v x d) g ∙ sym (if_yes (eqb w v) _ _ (eq-eqb w v e))
-
-  pub detour_there : (j : ℕ) (kind : Kind) → j ≡ home (set_of s) v → kind ≡ kind_by t v → (w ≡ v → ⊥)
-      → record { next = w; topology = j; kind = kind } ≡ detour_by (set_of s) (tables_at s tables) u t v w
-  unfolding detour_by
-  detour_there j kind g k e = ap₂ (λ (a : ℕ) (b : Kind). detour w a b) g k ∙ sym (if_no (eqb w v) _ _ (ne_eqb w v e))
-
-  pub detour_is : (j : ℕ) (r : Change) → j ≡ home (set_of s) v → w ≡ get_or tables (entry_place h j u t) 0 → r ≡ detour_by (set_of s) (tables_at s tables) u t v w → r ≡ detour_of (set_of s) (tables_at s tables) u t v
+module _ (s tables : List ℕ) (u t v w there : ℕ) (d : there ≡ home (set_of s) v) (e : w ≡ (tables_at s tables).next there u t) where
+  by_w : detour_by (set_of s) (tables_at s tables) u t v w ≡ detour_of (set_of s) (tables_at s tables) u t v
   unfolding detour_of
-  detour_is j r g d q =
-      let x : w ≡ (tables_at s tables).next (home (set_of s) v) u t = next_is s tables h n j u t w d ∙ ap (λ (k : ℕ). (tables_at s tables).next k u t) g in
-      q ∙ ap (detour_by (set_of s) (tables_at s tables) u t v) x
+  by_w = ap (detour_by (set_of s) (tables_at s tables) u t v) (e ∙ ap (λ (k : ℕ). (tables_at s tables).next k u t) d)
+
+  -- the next hop in v's home topology is v again: the alternate for v, in the node's own home topology
+  pub detour_back : (x j : ℕ) → x ≡ (tables_at s tables).alternate u v → j ≡ home (set_of s) u → w ≡ v
+      → record { next = x; topology = j; kind = change.D } ≡ detour_of (set_of s) (tables_at s tables) u t v
+  unfolding detour_by
+  detour_back x j a g q =
+      ap₂ (λ (a b : ℕ). detour a b change.D) a g ∙ sym (if_yes (eqb w v) _ _ (eq-eqb w v q)) ∙ by_w
+
+  pub detour_there : (kind : Kind) → kind ≡ kind_by t v → (w ≡ v → ⊥)
+      → record { next = w; topology = there; kind = kind } ≡ detour_of (set_of s) (tables_at s tables) u t v
+  unfolding detour_by
+  detour_there kind k q = ap₂ (λ (a : ℕ) (b : Kind). detour w a b) d k ∙ sym (if_no (eqb w v) _ _ (ne_eqb w v q)) ∙ by_w
 
 -- the change that the rule makes is along the detour
 pub change_along : (S : Set) (tables : Tables) (on : ℕ → ℕ → Bool) (p : Packet) (v : ℕ) (d : Change) → d ≡ detour_of S tables p.place p.destination v
@@ -125,17 +123,17 @@ module _ (s tables : List ℕ) (f : Failure) (p : Packet) where
   unfolding step_at step
   step_there e = sym (if_yes (eqb p.place p.destination) _ _ (eq-eqb p.place p.destination e))
 
-  pub step_onward : (h : Network) (v : ℕ) (r : Step) → h ≡ header_of s → (p.place ≡ p.destination → ⊥) → v ≡ get_or tables (entry_place h p.topology p.place p.destination) 0
+  pub step_onward : (v : ℕ) (r : Step) → (p.place ≡ p.destination → ⊥) → v ≡ (tables_at s tables).next p.topology p.place p.destination
       → r ≡ toward (set_of s) (tables_at s tables) (on s f) p v → r ≡ step_at s tables f p
   unfolding step_at step
-  step_onward h v r n e d q =
-      q ∙ ap (toward (set_of s) (tables_at s tables) (on s f) p) (next_is s tables h n p.topology p.place p.destination v d)
+  step_onward v r e d q =
+      q ∙ ap (toward (set_of s) (tables_at s tables) (on s f) p) d
       ∙ sym (if_no (eqb p.place p.destination) _ _ (ne_eqb p.place p.destination e))
 
 -- a blocked packet: it changes out of topology 0, and out of no other
 pub ruleset blocks = (blocked_along, blocked_later)
 
-pub ruleset hop = (entry_is, move_up, move_down, kind_same, kind_other, detour_back, detour_there, detour_is, blocked_first, blocked_later, toward_up, toward_down, step_there, step_onward)
+pub ruleset hop = (entry_is, next_is, alternate_is, move_up, move_down, kind_same, kind_other, detour_back, detour_there, blocked_first, blocked_later, toward_up, toward_down, step_there, step_onward)
 
 -- ---- 15
 
@@ -147,11 +145,11 @@ pub found_no : (t b : Bool) (number rest : ℕ) → t ≡ b → t ≡ false → 
 found_no t b number rest e d = need_no b number rest number (sym e ∙ d) refl
 
 module _ (s tables : List ℕ) (p : Packet) where
-  pub alternate_back : (h : Network) (v w x r : ℕ) → h ≡ header_of s → w ≡ v → x ≡ get_or tables (entry_place h (h.k + 1) p.place v) 0 → r ≡ need (neighbours (set_of s) p.place x) 15 0
+  pub alternate_back : (v w x r : ℕ) → w ≡ v → x ≡ (tables_at s tables).alternate p.place v → r ≡ need (neighbours (set_of s) p.place x) 15 0
       → r ≡ alternate_number (set_of s) (tables_at s tables) p v w
   unfolding alternate_number
-  alternate_back h v w x r n e d q =
-      q ∙ ap (λ (a : ℕ). need (neighbours (set_of s) p.place a) 15 0) (alternate_is s tables h n p.place v x d) ∙ sym (if_yes (eqb w v) _ _ (eq-eqb w v e))
+  alternate_back v w x r e d q =
+      q ∙ ap (λ (a : ℕ). need (neighbours (set_of s) p.place a) 15 0) d ∙ sym (if_yes (eqb w v) _ _ (eq-eqb w v e))
 
   pub alternate_there : (v w : ℕ) → (w ≡ v → ⊥) → 0 ≡ alternate_number (set_of s) (tables_at s tables) p v w
   unfolding alternate_number
@@ -170,24 +168,23 @@ module _ (s tables : List ℕ) (f : Failure) (p : Packet) where
   unfolding onward_number
   onward_later v t e d g = sym (if_yes (on s f p.place v || not (eqb p.topology 0)) _ _ (rw (sym e ∙ d, ne_eqb p.topology 0 g)))
 
-  pub onward_first : (h : Network) (v w j r : ℕ) (t : Bool) → h ≡ header_of s → t ≡ on s f p.place v → t ≡ false → p.topology ≡ 0 → j ≡ home (set_of s) v → w ≡ get_or tables (entry_place h j p.place p.destination) 0
+  pub onward_first : (v w j r : ℕ) (t : Bool) → t ≡ on s f p.place v → t ≡ false → p.topology ≡ 0 → j ≡ home (set_of s) v → w ≡ (tables_at s tables).next j p.place p.destination
       → r ≡ change_number (set_of s) (tables_at s tables) p v w → r ≡ onward_number s tables f p v
   unfolding onward_number
-  onward_first h v w j r t n e d z g x q =
-      let y : w ≡ (tables_at s tables).next (home (set_of s) v) p.place p.destination = next_is s tables h n j p.place p.destination w x ∙ ap (λ (k : ℕ). (tables_at s tables).next k p.place p.destination) g in
-      q ∙ ap (change_number (set_of s) (tables_at s tables) p v) y
+  onward_first v w j r t e d z g x q =
+      q ∙ ap (change_number (set_of s) (tables_at s tables) p v) (x ∙ ap (λ (k : ℕ). (tables_at s tables).next k p.place p.destination) g)
       ∙ sym (if_no (on s f p.place v || not (eqb p.topology 0)) _ _ (rw (sym e ∙ d, eq-eqb p.topology 0 z)))
 
   pub lookup_there : p.place ≡ p.destination → 0 ≡ lookup_at s tables f p
   unfolding lookup_at lookup_number
   lookup_there e = sym (if_yes (eqb p.place p.destination) _ _ (eq-eqb p.place p.destination e))
 
-  pub lookup_onward : (h : Network) (v x r : ℕ) → h ≡ header_of s → (p.place ≡ p.destination → ⊥) → v ≡ get_or tables (entry_place h p.topology p.place p.destination) 0
+  pub lookup_onward : (v x r : ℕ) → (p.place ≡ p.destination → ⊥) → v ≡ (tables_at s tables).next p.topology p.place p.destination
       → x ≡ onward_number s tables f p v → r ≡ need (neighbours (set_of s) p.place v) 15 x → r ≡ lookup_at s tables f p
   unfolding lookup_at lookup_number toward_number onward_number
-  lookup_onward h v x r n e d y q =
+  lookup_onward v x r e d y q =
       q ∙ ap (need (neighbours (set_of s) p.place v) 15) y
-      ∙ ap (toward_number (set_of s) (tables_at s tables) (on s f) p) (next_is s tables h n p.topology p.place p.destination v d)
+      ∙ ap (toward_number (set_of s) (tables_at s tables) (on s f) p) d
       ∙ sym (if_no (eqb p.place p.destination) _ _ (ne_eqb p.place p.destination e))
 
 pub ruleset lookups = (alternate_back, alternate_there, change_is, onward_up, onward_later, onward_first, lookup_there, lookup_onward, found_yes, found_no)

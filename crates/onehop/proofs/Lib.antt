@@ -1,3 +1,2 @@
--- A node's home and one hop, as the code has them.
-pub mod Homes
+-- One hop, as the code has it.
 pub mod Hops

@@ -32,11 +32,14 @@ use Rattle.rules.proofs.Refusals.Needs.{room_ok, room_long}
 use Rattle.rooms.specs.Rooms.{few_tables, Room}
 use Rattle.rooms.proofs.Longest as figures
 use Rattle.anyroom.specs.Laying.{Copied}
+use Rattle.text.specs.declared.Pen.{Pen}
 use Rattle.text.specs.Text.{Wrote, labelled_room}
+use Rattle.text.specs.Pen.{Writes}
 use Rattle.detections.specs.Detection.{Ready}
+use Rattle.detections.proofs.Seens.{ready_own, nodes_least, nodes_most}
 use Rattle.lines.specs.Lines.{text_room}
 use Rattle.report.specs.Answer.{refusal_room, Made, Says, it, line, Printed}
-use Rattle.text.proofs.Texts.{put_front, wrote_laid, wrote_then}
+use Rattle.text.proofs.Texts.{put_front, wrote_laid, writes_then}
 
 -- ---- room for the longest tables, and for the longest report
 
@@ -99,6 +102,12 @@ module _ (s : List ℕ) where
         most = rw (h, ← net_held s) A.nodes.1;
       }
 
+  pub made_taken : (answer : LengthAnswer) (tables : List ℕ) (bytes : ℕ) → Made s answer tables → answer ≡ long.Length bytes → take_set s ≡ Accepted
+  made_taken answer tables bytes M e = (made_ready answer tables bytes (header_of s) M e refl).accepted
+
+  pub made_own : (answer : LengthAnswer) (tables : List ℕ) (bytes : ℕ) → Made s answer tables → answer ≡ long.Length bytes → laid (table_bytes (set_of s)) tables ≡ tables
+  made_own answer tables bytes M e = ready_own s tables (header_of s) (made_ready answer tables bytes (header_of s) M e refl)
+
   -- ---- its text into lent room
 
   pub fits : take_set s ≡ Accepted → length (report_text (set_of s)) ≤ report_room (header_of s)
@@ -114,15 +123,15 @@ module _ (s : List ℕ) where
         lent = rw v (wrote_laid old new (report_text (set_of s)) text_room r w l);
       }
 
-  module _ (net : Network) (tables : List ℕ) (R : Ready s net tables) where
+  module _ (net : Network) (c : take_set s ≡ Accepted) (g : net ≡ header_of s) where
     pub written_whole : (old new : List ℕ) (r enough : ℕ) → enough ≡ report_room net → enough ≤ length old → Wrote old 0 (report_text (set_of s)) text_room r new → Copied (report_text (set_of s)) old (Ok r) new
     written_whole old new r enough e l w =
-        let h : report_room net ≡ report_room (header_of s) = ap report_room R.header in
-        wrote_copied old new r (omega (arith, fits R.accepted)) w
+        let h : report_room net ≡ report_room (header_of s) = ap report_room g in
+        wrote_copied old new r (omega (arith, fits c)) w
 
     module _ (zeros own : List ℕ) (r : ℕ) (room : Room longest.report zeros) (w : Wrote zeros 0 (report_text (set_of s)) text_room r own) where
       whole : length (report_text (set_of s)) ≤ length zeros
-      whole = omega (arith, room.long, report_fits (set_of s) (set_accepted s R.accepted))
+      whole = omega (arith, room.long, report_fits (set_of s) (set_accepted s c))
 
       pub apart_inside : r ≤ length own
       apart_inside = omega (arith, whole, w.on, w.long)
@@ -153,12 +162,13 @@ module _ (s : List ℕ) where
 
 -- ---- what the program prints
 
-pub refusal_of : (old o₁ o₂ new : List ℕ) (p q r number place : ℕ) → Wrote old 0 ((114 ∷ 101 ∷ 102 ∷ 117 ∷ 115 ∷ 101 ∷ 100 ∷ 32 ∷ []) ++ decimal number) labelled_room p o₁
-    → Wrote o₁ p ((32 ∷ 97 ∷ 116 ∷ 32 ∷ []) ++ decimal place) labelled_room q o₂ → Wrote o₂ q (10 ∷ []) 1 r new → Wrote old 0 (refusal_line number place) refusal_room r new
+pub refusal_of : (old o₁ o₂ new : Pen) (number place x : ℕ) → x ≡ number → Writes old ((114 ∷ 101 ∷ 102 ∷ 117 ∷ 115 ∷ 101 ∷ 100 ∷ 32 ∷ []) ++ decimal x) labelled_room o₁
+    → Writes o₁ ((32 ∷ 97 ∷ 116 ∷ 32 ∷ []) ++ decimal place) labelled_room o₂ → Writes o₂ (10 ∷ []) 1 new → Writes old (refusal_line number place) refusal_room new
 unfolding refusal_line
-refusal_of old o₁ o₂ new p q r number place a b c =
-    wrote_then old o₁ new 0 p r labelled_room (labelled_room + 1) refusal_room ((114 ∷ 101 ∷ 102 ∷ 117 ∷ 115 ∷ 101 ∷ 100 ∷ 32 ∷ []) ++ decimal number) (((32 ∷ 97 ∷ 116 ∷ 32 ∷ []) ++ decimal place) ++ newline) a
-    (wrote_then o₁ o₂ new p q r labelled_room 1 (labelled_room + 1) ((32 ∷ 97 ∷ 116 ∷ 32 ∷ []) ++ decimal place) newline b c (omega arith)) (omega arith)
+refusal_of old o₁ o₂ new number place x e a b c =
+    writes_then old o₁ new labelled_room (labelled_room + 1) refusal_room ((114 ∷ 101 ∷ 102 ∷ 117 ∷ 115 ∷ 101 ∷ 100 ∷ 32 ∷ []) ++ decimal number) (((32 ∷ 97 ∷ 116 ∷ 32 ∷ []) ++ decimal place) ++ newline)
+    (subst (λ (y : ℕ). Writes old ((114 ∷ 101 ∷ 102 ∷ 117 ∷ 115 ∷ 101 ∷ 100 ∷ 32 ∷ []) ++ decimal y) labelled_room o₁) e a)
+    (writes_then o₁ o₂ new labelled_room 1 (labelled_room + 1) ((32 ∷ 97 ∷ 116 ∷ 32 ∷ []) ++ decimal place) newline b c (omega arith)) (omega arith)
 
 module _ (s : List ℕ) where
   -- a report keeps the length of its room
@@ -225,4 +235,4 @@ copied_leaves bytes old l = rw (room_ok (length bytes) old l)
 -- a text that is written straight into lent room
 pub ruleset straight = (fits, copied_tells, copied_leaves, put_front)
 
-pub ruleset answers = (array_long, made_all, made_few, few_enough, made_ready, written_whole, apart_inside, apart_copied, reported, made_refused, refusal_of, printed_of, says_report, says_refusal)
+pub ruleset answers = (array_long, made_all, made_few, few_enough, made_taken, made_own, nodes_least, nodes_most, written_whole, apart_inside, apart_copied, reported, made_refused, refusal_of, printed_of, says_report, says_refusal)

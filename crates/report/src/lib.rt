@@ -3,7 +3,7 @@
 // fixes the text, byte for byte, or the refusal. `print` promises the text that the report program prints, the refusal's line too.
 #![tactic(auto)]
 
-ghost use Rattle.std.specs.Prelude.{◌≤◌};
+ghost use Rattle.std.specs.Prelude.{◌≡◌, ◌≤◌};
 ghost use Rattle.rules.specs.Limits.{tables_length};
 ghost use Rattle.rules.specs.File.{header_of, set_of};
 ghost use Rattle.rules.specs.Report.{report_text, refusal_line};
@@ -11,50 +11,63 @@ ghost use Rattle.rules.specs.Entries.Entry.{Promise};
 ghost use Rattle.rules.specs.Entries.Report.{report_entry};
 ghost use Rattle.rooms.specs.Rooms.{few_tables};
 ghost use Rattle.text.specs.Text.{Wrote};
-ghost use Rattle.detections.specs.Detection.{Ready};
+ghost use Rattle.text.specs.Pen.{Writes};
 ghost use Rattle.anyroom.specs.Laying.{Copied};
 ghost use Rattle.report.specs.Answer.{Made, Says, Printed, refusal_room};
 
 use anyroom::lay_text;
+use detections::OwnTables;
 use layout::header;
 use lines::write;
+use linkstate::NetworkFile;
+use onehop::Routed;
 use rules::{LengthAnswer, Network};
 use tables::tables;
-use text::{labelled, put};
+use text::Pen;
 
 // ---- the text into lent room
 
 // The text, made in room of its own and laid into the room that is lent.
-fn apart(file: &[u8], net: Network, tables: &[u8], text: &mut [u8]) -> LengthAnswer
-    requires { Ready file.now net tables.now }
-    ensures { Copied (report_text (set_of file.now)) text.old result text.new }
+fn apart(set: &OwnTables, text: &mut [u8]) -> LengthAnswer
+    ensures { Copied (report_text (set_of set.now.routed.file.bytes.now)) text.old result text.new }
 {
     let mut made = rooms::report();
-    let long = write(file, net, tables, &mut made);
+    let long = write(set, &mut made);
     lay_text(&made, long, text)
 }
 
 // The text, or 14. Where every report on so many nodes fits it is written straight into the lent room: to clear room for the longest
 // costs more than a small report.
 #[tactic(auto, using(crate::proofs::Answers::straight))]
-fn text_into(file: &[u8], net: Network, tables: &[u8], text: &mut [u8]) -> LengthAnswer
-    requires { Ready file.now net tables.now }
-    ensures { Copied (report_text (set_of file.now)) text.old result text.new }
+fn text_into(set: &OwnTables, text: &mut [u8]) -> LengthAnswer
+    ensures { Copied (report_text (set_of set.now.routed.file.bytes.now)) text.old result text.new }
 {
-    let enough = net.report_room();
+    let enough = set.routed.file.net.report_room();
     if enough <= text.len() {
-        return LengthAnswer::Length(write(file, net, tables, text));
+        return LengthAnswer::Length(write(set, text));
     }
-    apart(file, net, tables, text)
+    apart(set, text)
 }
 
 // The report by the tables that were made, or the refusal that came in their place.
-fn report_by(made: LengthAnswer, file: &[u8], tables: &[u8], text: &mut [u8]) -> LengthAnswer
+fn report_by<'a>(
+    made: LengthAnswer,
+    file: &'a [u8],
+    tables: &'a [u8],
+    text: &mut [u8],
+) -> LengthAnswer
     requires { Made file.now made tables.now }
     ensures { Promise report_entry file.now text.old result text.new }
 {
     match made {
-        LengthAnswer::Length(_) => text_into(file, header(file), tables, text),
+        LengthAnswer::Length(_) => {
+            let file = NetworkFile {
+                bytes: file,
+                net: header(file),
+            };
+            let routed = Routed { file, tables };
+            text_into(&OwnTables { routed }, text)
+        }
         LengthAnswer::Refused { number, place } => LengthAnswer::Refused { number, place },
     }
 }
@@ -94,12 +107,22 @@ pub fn report(file: &[u8], text: &mut [u8]) -> LengthAnswer
 // ---- what the report program prints
 
 // The line of a refusal.
+fn refusal_line(pen: &mut Pen, refused: u8, place: usize)
+    requires { pen.old.at ≡ 0 }
+    ensures { Writes pen.old (refusal_line refused place) refusal_room pen.new }
+{
+    pen.labelled(b"refused ", usize::from(refused));
+    pen.labelled(b" at ", place);
+    pen.put(b'\n');
+}
+
+// The same from the text's first byte on; returns its length.
 fn refusal(text: &mut [u8], refused: u8, place: usize) -> usize
     ensures { Wrote text.old 0 (refusal_line refused place) refusal_room result text.new }
 {
-    let at = labelled(text, 0, b"refused ", refused as usize);
-    let end = labelled(text, at, b" at ", place);
-    put(text, end, b'\n')
+    let mut pen = Pen { text, at: 0 };
+    refusal_line(&mut pen, refused, place);
+    pen.at
 }
 
 // The length of the text, where the report was written; else the refusal's line.

@@ -1,3 +1,2 @@
--- What was written at a cursor, and the sign of a number.
+-- The text that a pen wrote.
 pub mod Texts
-pub mod Signs

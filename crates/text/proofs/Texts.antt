@@ -1,18 +1,27 @@
--- Bytes written one after the other are their concatenation written at once; numbers, letters and byte strings as bytes.
+-- Bytes written one after the other are their concatenation written at once, at a place and by a pen; numbers, letters and byte strings as bytes.
 use mathlib.Core.Path.{◌≡◌, refl, sym, ap, subst, ◌∙◌}
+use mathlib.Core.Bool.{true, false, true≢false}
 use mathlib.Core.List.{List, [], ◌∷◌, ◌++◌}
 use Prim.Native.Nat.{ℕ, zero, suc, ◌+◌, ◌-◌, ◌/◌, ◌%◌, ◌≤◌, ◌<◌}
 use native.Mathlib.Numerals.{add-one}
 use native.Mathlib.Omega.{arith}
 use lib.ListN.{length, get_or, take, length-append}
+use lib.IntN.{ℤ, pos, negsuc, nat_abs}
+use lib.Signed.{lt_z}
 use lib.Seq.{take-suc, take_all}
+use borrow.Author.Tests.{ltb-true}
+use mir.Syntax.{w32}
+use mir.Val.{SFits, to_z, of_z}
+use mir.Facts.{to_z-of_z}
 use Rattle.rules.specs.Basics.{laid}
-use Rattle.rules.specs.Report.{digits, decimal, space}
+use Rattle.rules.specs.Report.{digits, decimal, signed, space}
 use Rattle.rules.proofs.Forwarding.ChangeKinds.{letter_none, letter_t, letter_s, letter_d}
 use Rattle.rules.proofs.Report.TextLength.{digits_one, digits_more}
 use Rattle.slices.specs.Stores.{put}
 use Rattle.slices.proofs.Stores.{put_then, put_laid}
-use Rattle.text.specs.Text.{Wrote, field, number_room, field_room, label_room, labelled_room}
+use Rattle.text.specs.declared.Pen.{Pen}
+use Rattle.text.specs.Text.{Wrote, field, number_room, signed_room, field_room, label_room, labelled_room}
+use Rattle.text.specs.Pen.{Writes}
 
 -- ---- one after the other
 
@@ -41,22 +50,38 @@ put_front bytes old h = put_laid bytes old h
 pub wrote_laid : (old new bytes : List ℕ) (most r : ℕ) → Wrote old 0 bytes most r new → length bytes ≤ length old → new ≡ laid bytes old
 wrote_laid old new bytes most r w h = w.is ∙ put_laid bytes old h
 
+-- ---- the same of a pen
+
+pub writes_none : (pen : Pen) (most : ℕ) → Writes pen [] most pen
+writes_none pen most = record { held = refl; wrote = wrote_none pen.text.now pen.at most }
+
+pub writes_then : (old mid new : Pen) (a b most : ℕ) (xs ys : List ℕ) → Writes old xs a mid → Writes mid ys b new → a + b ≤ most → Writes old (xs ++ ys) most new
+writes_then old mid new a b most xs ys v w h =
+    record {
+      held = w.held ∙ v.held;
+      wrote = wrote_then old.text.now mid.text.now new.text.now old.at mid.at new.at a b most xs ys v.wrote w.wrote h;
+    }
+
+pub writes_as : (old new : Pen) (most : ℕ) (xs ys : List ℕ) → xs ≡ ys → Writes old xs most new → Writes old ys most new
+writes_as old new most xs ys e w = subst (λ (l : List ℕ). Writes old l most new) e w
+
+-- a larger bound
+pub writes_few : (old new : Pen) (a b : ℕ) (xs : List ℕ) → a ≤ b → Writes old xs a new → Writes old xs b new
+writes_few old new a b xs h w = record { held = w.held; wrote = record { is = w.wrote.is; on = w.wrote.on; few = omega (arith, w.wrote.few); long = w.wrote.long } }
+
 -- ---- a byte string
 
-pub copied_none : (text bytes : List ℕ) (at : ℕ) → Wrote text at (take 0 bytes) 0 at text
-copied_none text bytes at = wrote_none text at 0
+pub copied_more : (old mid new : Pen) (bytes : List ℕ) (i : ℕ) → i < length bytes
+    → Writes old (take i bytes) i mid → Writes mid (get_or bytes i 0 ∷ []) 1 new → Writes old (take (i + 1) bytes) (i + 1) new
+copied_more old mid new bytes i l v w =
+    writes_as old new (i + 1) (take i bytes ++ (get_or bytes i 0 ∷ [])) (take (i + 1) bytes)
+    (sym (take-suc bytes i 0 l) ∙ ap (λ (j : ℕ). take j bytes) (sym (add-one i)))
+    (writes_then old mid new i 1 (i + 1) (take i bytes) (get_or bytes i 0 ∷ []) v w (omega arith))
 
-pub copied_more : (old mid new bytes : List ℕ) (start at r i x : ℕ) → x ≡ get_or bytes i 0 → i < length bytes
-    → Wrote old start (take i bytes) i at mid → Wrote mid at (x ∷ []) 1 r new → Wrote old start (take (i + 1) bytes) (i + 1) r new
-copied_more old mid new bytes start at r i x e l v w =
-    wrote_as old new start r (i + 1) (take i bytes ++ (x ∷ [])) (take (i + 1) bytes)
-    (ap (λ (y : ℕ). take i bytes ++ (y ∷ [])) e ∙ sym (take-suc bytes i 0 l) ∙ ap (λ (j : ℕ). take j bytes) (sym (add-one i)))
-    (wrote_then old mid new start at r i 1 (i + 1) (take i bytes) (x ∷ []) v w (omega arith))
-
-pub copied_all : (old new bytes : List ℕ) (start r i long : ℕ) → long ≡ length bytes → Wrote old start (take i bytes) i r new → i ≤ long → long ≤ i → Wrote old start bytes (length bytes) r new
-copied_all old new bytes start r i long z w a b =
+pub copied_all : (old new : Pen) (bytes : List ℕ) (i : ℕ) → Writes old (take i bytes) i new → i ≤ length bytes → length bytes ≤ i → Writes old bytes (length bytes) new
+copied_all old new bytes i w h g =
     let e : i ≡ length bytes = omega arith in
-    subst (λ (m : ℕ). Wrote old start bytes m r new) e (wrote_as old new start r i (take i bytes) bytes (take_all i bytes (omega arith)) w)
+    subst (λ (m : ℕ). Writes old bytes m new) e (writes_as old new i (take i bytes) bytes (take_all i bytes g) w)
 
 -- ---- a number
 
@@ -64,43 +89,72 @@ digits_none : (x : ℕ) → digits 0 x ≡ (48 + x % 10) ∷ []
 unfolding digits
 digits_none x = refl
 
-pub one_digit : (old new : List ℕ) (at r more x d : ℕ) → d ≡ 48 + x → x < 10 → Wrote old at (d ∷ []) 1 r new → Wrote old at (digits more x) (more + 1) r new
-one_digit old new at r more x d e h w =
-    wrote_as old new at r (more + 1) (d ∷ []) (digits more x) (ap (λ (y : ℕ). y ∷ []) e ∙ sym (digits_one more x h))
-    (record { is = w.is; on = w.on; few = omega (arith, w.few); long = w.long })
+-- one digit is all: no more are asked for, or the number has no more
+pub one_digit : (old p new : Pen) (more x : ℕ) → p ≡ old → x < 10 → Writes p ((48 + x % 10) ∷ []) 1 new → Writes old (digits more x) (more + 1) new
+one_digit old p new more x e h w =
+    let low : x % 10 ≡ x = omega arith in
+    writes_as old new (more + 1) ((48 + x % 10) ∷ []) (digits more x) (ap (λ (y : ℕ). (48 + y) ∷ []) low ∙ sym (digits_one more x h))
+    (writes_few old new 1 (more + 1) ((48 + x % 10) ∷ []) (omega arith) (subst (λ (q : Pen). Writes q ((48 + x % 10) ∷ []) 1 new) e w))
 
-pub last_digit : (old new : List ℕ) (at r more x d : ℕ) → d ≡ 48 + x % 10 → more ≡ 0 → Wrote old at (d ∷ []) 1 r new → Wrote old at (digits more x) (more + 1) r new
-last_digit old new at r more x d e z w =
-    wrote_as old new at r (more + 1) (d ∷ []) (digits more x) (ap (λ (y : ℕ). y ∷ []) e ∙ sym (ap (λ (m : ℕ). digits m x) z ∙ digits_none x))
-    (record { is = w.is; on = w.on; few = omega (arith, w.few); long = w.long })
+pub last_digit : (old p new : Pen) (more x : ℕ) → p ≡ old → more ≤ 0 → Writes p ((48 + x % 10) ∷ []) 1 new → Writes old (digits more x) (more + 1) new
+last_digit old p new more x e h w =
+    let z : more ≡ 0 = omega arith in
+    writes_as old new (more + 1) ((48 + x % 10) ∷ []) (digits more x) (sym (ap (λ (m : ℕ). digits m x) z ∙ digits_none x))
+    (writes_few old new 1 (more + 1) ((48 + x % 10) ∷ []) (omega arith) (subst (λ (q : Pen). Writes q ((48 + x % 10) ∷ []) 1 new) e w))
 
-pub more_digits : (old mid new : List ℕ) (at p r more x d : ℕ) → d ≡ 48 + x % 10 → (more ≡ 0 → ⊥) → 10 ≤ x
-    → Wrote old at (digits (more - 1) (x / 10)) (more - 1 + 1) p mid → Wrote mid p (d ∷ []) 1 r new → Wrote old at (digits more x) (more + 1) r new
-more_digits old mid new at p r zero x d e ne l v w = absurd (ne refl)
-more_digits old mid new at p r (suc more) x d e ne l v w =
+pub more_digits : (old p mid new : Pen) (more x : ℕ) → p ≡ mid → 0 < more → 10 ≤ x
+    → Writes old (digits (more - 1) (x / 10)) (more - 1 + 1) mid → Writes p ((48 + x % 10) ∷ []) 1 new → Writes old (digits more x) (more + 1) new
+more_digits old p mid new zero x e ne l v w = absurd (omega arith)
+more_digits old p mid new (suc more) x e ne l v w =
     let z : suc more - 1 ≡ more = omega arith in
-    let v' : Wrote old at (digits more (x / 10)) (more + 1) p mid = subst (λ (m : ℕ). Wrote old at (digits m (x / 10)) (m + 1) p mid) z v in
-    wrote_as old new at r (suc more + 1) (digits more (x / 10) ++ (d ∷ [])) (digits (suc more) x)
-    (ap (λ (y : ℕ). digits more (x / 10) ++ (y ∷ [])) e ∙ sym (digits_more more x l))
-    (wrote_then old mid new at p r (more + 1) 1 (suc more + 1) (digits more (x / 10)) (d ∷ []) v' w (omega arith))
+    let v' : Writes old (digits more (x / 10)) (more + 1) mid = subst (λ (m : ℕ). Writes old (digits m (x / 10)) (m + 1) mid) z v in
+    writes_as old new (suc more + 1) (digits more (x / 10) ++ ((48 + x % 10) ∷ [])) (digits (suc more) x) (sym (digits_more more x l))
+    (writes_then old mid new (more + 1) 1 (suc more + 1) (digits more (x / 10)) ((48 + x % 10) ∷ []) v' (subst (λ (q : Pen). Writes q ((48 + x % 10) ∷ []) 1 new) e w) (omega arith))
 
-pub number_of : (old new : List ℕ) (at r x : ℕ) → Wrote old at (digits 19 x) number_room r new → Wrote old at (decimal x) number_room r new
+pub number_of : (old new : Pen) (x : ℕ) → Writes old (digits 19 x) number_room new → Writes old (decimal x) number_room new
 unfolding decimal
-number_of old new at r x w = w
+number_of old new x w = w
 
-pub short_number : (old new : List ℕ) (at r x d : ℕ) → d ≡ 48 + x → x < 10 → Wrote old at (d ∷ []) 1 r new → Wrote old at (decimal x) number_room r new
-short_number old new at r x d e h w = number_of old new at r x (one_digit old new at r 19 x d e h w)
+pub labelled_of : (old mid new : Pen) (label : List ℕ) (x : ℕ) → length label ≤ label_room → Writes old label (length label) mid → Writes mid (decimal x) number_room new
+    → Writes old (label ++ decimal x) labelled_room new
+labelled_of old mid new label x h v w = writes_then old mid new (length label) number_room labelled_room label (decimal x) v w (omega arith)
 
-pub labelled_of : (old mid new label : List ℕ) (at p r x : ℕ) → length label ≤ label_room → Wrote old at label (length label) p mid → Wrote mid p (decimal x) number_room r new
-    → Wrote old at (label ++ decimal x) labelled_room r new
-labelled_of old mid new label at p r x h v w = wrote_then old mid new at p r (length label) number_room labelled_room label (decimal x) v w (omega arith)
-
-pub field_of : (old mid new : List ℕ) (at p r x : ℕ) → Wrote old at (decimal x) number_room p mid → Wrote mid p (32 ∷ []) 1 r new → Wrote old at (field x) field_room r new
+pub field_of : (old mid new : Pen) (x y : ℕ) → y ≡ x → Writes old (decimal y) number_room mid → Writes mid (32 ∷ []) 1 new → Writes old (field x) field_room new
 unfolding field
-field_of old mid new at p r x v w = wrote_then old mid new at p r number_room 1 field_room (decimal x) space v w (omega arith)
+field_of old mid new x y e v w =
+    writes_then old mid new number_room 1 field_room (decimal x) space (writes_as old mid number_room (decimal y) (decimal x) (ap decimal e) v) w (omega arith)
+
+-- ---- a number with its sign
+
+-- below zero, and not below: the number as its 32 bits, read back, and how far it is from zero
+pub below_zero : (old p mid new : Pen) (x : ℤ) (d : ℕ) → SFits w32 x → lt_z (to_z w32 (of_z w32 x)) (pos 0) ≡ true → d ≡ nat_abs (to_z w32 (of_z w32 x))
+    → p ≡ mid → Writes old (45 ∷ []) 1 mid → Writes p (decimal d) number_room new → Writes old (signed x) signed_room new
+unfolding signed
+below_zero old p mid new x d f b n e v w = go x (sym (ap (λ (z : ℤ). lt_z z (pos 0)) (to_z-of_z {w = w32} f)) ∙ b) (n ∙ ap nat_abs (to_z-of_z {w = w32} f))
+  where
+    v' : Writes old (45 ∷ []) 1 p
+    v' = subst (λ (q : Pen). Writes old (45 ∷ []) 1 q) (sym e) v
+
+    go : (z : ℤ) → lt_z z (pos 0) ≡ true → d ≡ nat_abs z → Writes old (signed z) signed_room new
+    go (pos n) l k = absurd (omega (arith, ltb-true n 0 l))
+    go (negsuc n) l k =
+        writes_as old new signed_room (45 ∷ decimal d) (45 ∷ decimal (n + 1)) (ap (λ (y : ℕ). 45 ∷ decimal y) (k ∙ sym (add-one n)))
+        (writes_then old p new 1 number_room signed_room (45 ∷ []) (decimal d) v' w (omega arith))
+
+pub not_below : (old p new : Pen) (x : ℤ) (d : ℕ) → SFits w32 x → lt_z (to_z w32 (of_z w32 x)) (pos 0) ≡ false → d ≡ nat_abs (to_z w32 (of_z w32 x))
+    → p ≡ old → Writes p (decimal d) number_room new → Writes old (signed x) signed_room new
+unfolding signed
+not_below old p new x d f b n e w = go x (sym (ap (λ (z : ℤ). lt_z z (pos 0)) (to_z-of_z {w = w32} f)) ∙ b) (n ∙ ap nat_abs (to_z-of_z {w = w32} f))
+  where
+    w' : Writes old (decimal d) number_room new
+    w' = subst (λ (q : Pen). Writes q (decimal d) number_room new) e w
+
+    go : (z : ℤ) → lt_z z (pos 0) ≡ false → d ≡ nat_abs z → Writes old (signed z) signed_room new
+    go (pos n) l k = writes_few old new number_room signed_room (decimal n) (omega arith) (writes_as old new number_room (decimal d) (decimal n) (ap decimal k) w')
+    go (negsuc n) l k = absurd (true≢false l)
 
 -- two results that the promise allows coincide: the place after the bytes, and every byte of the text
 pub one_writing : (old bytes new new' : List ℕ) (at most r r' : ℕ) → Wrote old at bytes most r new → Wrote old at bytes most r' new' → (r ≡ r') × (new ≡ new')
 one_writing old bytes new new' at most r r' v w = (v.on ∙ sym w.on, v.is ∙ sym w.is)
 
-pub ruleset texts = (copied_none, copied_more, copied_all, one_digit, last_digit, more_digits, number_of, short_number, labelled_of, field_of, letter_none, letter_t, letter_s, letter_d)
+pub ruleset texts = (writes_none, copied_more, copied_all, one_digit, last_digit, more_digits, number_of, labelled_of, field_of, below_zero, not_below, letter_none, letter_t, letter_s, letter_d)

@@ -1,2 +1,3 @@
--- Bytes written into a text at a cursor.
+-- Bytes written into a text, and the pen that writes them.
 pub mod Text
+pub mod Pen

@@ -1,5 +1,5 @@
--- Bytes written into a text at a cursor.
-use Rattle.std.specs.Prelude.{◌≡◌, Bool, List, ◌∷◌, ◌++◌, ℕ, ◌+◌, ◌≤◌, length, if◌then◌else◌}
+-- Bytes written into a text from a place on.
+use Rattle.std.specs.Prelude.{◌≡◌, List, ◌++◌, ℕ, ◌+◌, ◌≤◌, length}
 use Rattle.rules.specs.Report.{decimal, space}
 use Rattle.slices.specs.Stores.{put}
 
@@ -9,10 +9,6 @@ pub record Wrote (old : List ℕ) (at : ℕ) (bytes : List ℕ) (most r : ℕ) (
   pub on : r ≡ at + length bytes
   pub few : r ≤ at + most
   pub long : length new ≡ length old
-
--- digits, and a minus sign before them where the number is below zero
-unfoldable pub with_sign : Bool → ℕ → List ℕ
-with_sign below x = if below then 45 ∷ decimal x else decimal x
 
 -- a number and the space after it
 unfoldable pub field : ℕ → List ℕ

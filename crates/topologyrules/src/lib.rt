@@ -74,12 +74,10 @@ fn all_served(nb: &[u32], iso: u32, bb: u32, n: u8) -> bool
     let mut left = both(iso, firsts(n));
     while left != 0 {
         let v = lowest(left);
-        let enough = served(nb, bb, v);
-        if enough {
-            left = removing(left, v);
-        } else {
+        if !served(nb, bb, v) {
             return false;
         }
+        left = removing(left, v);
     }
     true
 }

@@ -8,6 +8,8 @@ ghost use Rattle.rules.specs.Judgement.{judge};
 
 use console::{read_full, refused};
 use intake::take_set;
+use linkstate::NetworkFile;
+use onehop::{Routed, Situation};
 use rules::{Failure, Journey, Packet, RunAnswer, Step, Verdict};
 use std::io;
 use std::io::Write;
@@ -17,11 +19,15 @@ use tracing::{question, show};
 // ---- the hops
 
 // One hop, by the tables that the run left.
-fn one(file: &[u8], tables: &[u8], failure: Failure, p: Packet) -> Step
+fn one<'a>(file: &'a [u8], tables: &'a [u8], failure: Failure, p: Packet) -> Step
     requires { judge file.now ≡ Accepted }
 {
-    let net = layout::header(file);
-    onehop::take(file, net, tables, failure, p)
+    let file = NetworkFile {
+        bytes: file,
+        net: layout::header(file),
+    };
+    let routed = Routed { file, tables };
+    Situation { routed, failure }.take(p)
 }
 
 // One hop and its line; the packet after it.
@@ -112,12 +118,14 @@ fn run<W: Write>(out: &mut W, file: &[u8], q: Question, failure: Failure) -> io:
 fn run_link<W: Write>(out: &mut W, file: &[u8], q: Question, a: u8, b: u8) -> io::Result<()>
     requires { judge file.now ≡ Accepted }
 {
-    let net = layout::header(file);
-    let l = linkstate::link_between(file, net, a, b);
-    if l < net.m {
-        return run(out, file, q, Failure::Link(l));
+    let held = NetworkFile {
+        bytes: file,
+        net: layout::header(file),
+    };
+    match held.link_between(a, b) {
+        Some(l) => run(out, file, q, Failure::Link(l)),
+        None => show::no_link(out, a, b),
     }
-    show::no_link(out, a, b)
 }
 
 fn answer<W: Write>(out: &mut W, file: &[u8], q: Question) -> io::Result<()>

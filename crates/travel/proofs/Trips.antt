@@ -27,17 +27,12 @@ pub kind_first : (k next : Kind) → k ≡ change.Unchanged → next ≡ first_k
 unfolding first_kind
 kind_first k next e = rw e
 
-pub kind_t : (k next : Kind) → k ≡ change.T → k ≡ first_kind k next
+pub kind_kept : (k next : Kind) → (k ≡ change.Unchanged → ⊥) → k ≡ first_kind k next
 unfolding first_kind
-kind_t k next e = rw e
-
-pub kind_s : (k next : Kind) → k ≡ change.S → k ≡ first_kind k next
-unfolding first_kind
-kind_s k next e = rw e
-
-pub kind_d : (k next : Kind) → k ≡ change.D → k ≡ first_kind k next
-unfolding first_kind
-kind_d k next e = rw e
+kind_kept change.Unchanged next ne = absurd (ne refl)
+kind_kept change.T next ne = refl
+kind_kept change.S next ne = refl
+kind_kept change.D next ne = refl
 
 kind_alone : (k : Kind) → first_kind k change.Unchanged ≡ k
 unfolding first_kind
@@ -197,4 +192,4 @@ pub one_run : (s tables : List ℕ) (f : Failure) (start : Packet) (most : ℕ) 
     → RunsAs s tables f start most old r new → RunsAs s tables f start most old r' new' → (r ≡ r') × (new ≡ new')
 one_run s tables f start most old new new' r r' p q = (p.answer ∙ sym q.answer, p.written ∙ sym q.written)
 
-pub ruleset travelling = (kind_first, kind_t, kind_s, kind_d, travel_none, travel_more, travel_delivered, travel_dropped, travel_under_way, begun, runs_whole, fewer_left)
+pub ruleset travelling = (kind_first, kind_kept, travel_none, travel_more, travel_delivered, travel_dropped, travel_under_way, begun, runs_whole, fewer_left)

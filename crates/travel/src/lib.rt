@@ -3,14 +3,13 @@
 // its change, and every byte of the trail.
 #![tactic(auto)]
 
-ghost use Rattle.std.specs.Prelude.{◌≡◌, [], ◌∷◌, ◌+◌, ◌<◌, length};
+ghost use Rattle.std.specs.Prelude.{◌≡◌, [], ◌∷◌, ◌<◌, length};
 ghost use Rattle.rules.specs.Forwarding.{first_kind};
 ghost use Rattle.slices.specs.Stores.{put};
-ghost use Rattle.linkstate.specs.Links.{Judged};
 ghost use Rattle.travel.specs.Trip.{RunsAs, Begun};
 
-use onehop::take;
-use rules::{Failure, Journey, Kind, Network, Outcome, Packet, Step};
+use onehop::Situation;
+use rules::{Journey, Kind, Outcome, Packet, Step};
 use slices::store;
 
 // The kind of the first change: the one there was, or else this hop's.
@@ -19,9 +18,7 @@ fn first_kind(kind: Kind, next: Kind) -> Kind
 {
     match kind {
         Kind::Unchanged => next,
-        Kind::T => kind,
-        Kind::S => kind,
-        Kind::D => kind,
+        _ => kind,
     }
 }
 
@@ -30,13 +27,6 @@ fn visit(trail: &mut [u8], hops: u8, v: u8)
     ensures { trail.new ≡ put trail.old hops (v ∷ []) }
 {
     store::bytes(trail, hops as usize, [v]);
-}
-
-fn one_more(hops: u8, most: u8) -> u8
-    requires { hops < most }
-    ensures { result ≡ hops + 1 }
-{
-    hops + 1
 }
 
 // How a run ended, where its packet is.
@@ -52,25 +42,15 @@ fn ended(outcome: Outcome, hops: u8, p: Packet, kind: Kind) -> Journey
 }
 
 // The run of a packet whose place stands first in the trail already, of at most so many hops.
-fn go_on(
-    file: &[u8],
-    net: Network,
-    tables: &[u8],
-    failure: Failure,
-    start: Packet,
-    most: u8,
-    trail: &mut [u8],
-) -> Journey
-    requires judged { Judged file.now net }
-    requires begun { Begun start most trail.old }
-    ensures { RunsAs file.now tables.now failure start most trail.old result trail.new }
+fn go_on(situation: &Situation, start: Packet, most: u8, trail: &mut [u8]) -> Journey
+    requires { Begun start most trail.old }
+    ensures { RunsAs situation.now.routed.file.bytes.now situation.now.routed.tables.now situation.now.failure start most trail.old result trail.new }
 {
     let mut p = start;
     let mut hops: u8 = 0;
     let mut kind = Kind::Unchanged;
     loop {
-        let s = take(file, net, tables, failure, p);
-        match s {
+        match situation.take(p) {
             Step::Delivered(q) => {
                 return ended(Outcome::Delivered, hops, q, kind);
             }
@@ -81,7 +61,7 @@ fn go_on(
                 if most <= hops {
                     return ended(Outcome::UnderWay, hops, p, kind);
                 }
-                hops = one_more(hops, most);
+                hops += 1;
                 visit(trail, hops, q.place);
                 kind = first_kind(kind, next);
                 p = q;
@@ -93,19 +73,10 @@ fn go_on(
 // The run of a packet, of at most so many hops; each node visited is written into the trail.
 // Rules out: delivered, where the hops allowed ran out before `delivery_claimed_before_arrival`; delivered, where the packet was
 // dropped `delivery_claimed_for_a_drop`.
-pub fn travel(
-    file: &[u8],
-    net: Network,
-    tables: &[u8],
-    failure: Failure,
-    start: Packet,
-    most: u8,
-    trail: &mut [u8],
-) -> Journey
-    requires judged { Judged file.now net }
-    requires most_in_bounds { most < length trail.old }
-    ensures { RunsAs file.now tables.now failure start most trail.old result trail.new }
+pub fn travel(situation: &Situation, start: Packet, most: u8, trail: &mut [u8]) -> Journey
+    requires { most < length trail.old }
+    ensures { RunsAs situation.now.routed.file.bytes.now situation.now.routed.tables.now situation.now.failure start most trail.old result trail.new }
 {
     visit(trail, 0, start.place);
-    go_on(file, net, tables, failure, start, most, trail)
+    go_on(situation, start, most, trail)
 }

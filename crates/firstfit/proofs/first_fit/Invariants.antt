@@ -1,4 +1,4 @@
-use Prim.Native.Nat.{◌-◌, ◌≤◌}
+use Prim.Native.Nat.{◌-◌}
 use Rattle.firstfit.proofs.Placing.{Placing, Tried}
 use lib.ListN.{length}
 use mathlib.Core.Path.{◌≡◌}
@@ -11,7 +11,4 @@ abbrev pub decreases-loop-i : goal.decreases-loop-i
 decreases-loop-i l = 33 - l.i
 
 abbrev pub invariant-build : goal.invariant-build
-invariant-build l = (l.v ≤ l.n) × Placing l.nb l.n l.cap l.homes l.isos l.v × (length l.homes ≡ length l.initial.homes)
-
-abbrev pub decreases-build : goal.decreases-build
-decreases-build l = l.n - l.v
+invariant-build l = (l.placed ≡ l.v) × Placing l.nb l.n l.cap l.homes l.isos l.v × (length l.homes ≡ length l.initial.homes)

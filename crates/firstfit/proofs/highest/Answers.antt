@@ -1,12 +1,11 @@
 use Rattle.firstfit.proofs.Placing.{highest_done, highest_more, highest_none}
-use borrow.Author.Rules.{rules}
 use Rattle.firstfit.proofs.highest.Goals as goal
 
-pub loop-v-init : goal.loop-v-init
-loop-v-init c = (search rules, search highest_none)
+pub loop-home-init : goal.loop-home-init
+loop-home-init c = search highest_none
 
-pub loop-v-preserved : goal.loop-v-preserved
-loop-v-preserved c = (search rules, search highest_more)
+pub loop-home-preserved : goal.loop-home-preserved
+loop-home-preserved c = search highest_more
 
 pub returns : goal.returns
 returns c = search highest_done

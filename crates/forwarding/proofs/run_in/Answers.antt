@@ -16,11 +16,11 @@ fill-requires-clause-out_len c = search running
 pub most_hops-requires : goal.most_hops-requires
 most_hops-requires c = (search running, search running)
 
-pub travel-requires-clause-judged : goal.travel-requires-clause-judged
-travel-requires-clause-judged c = search running
+pub travel_by-requires-clause-accepted : goal.travel_by-requires-clause-accepted
+travel_by-requires-clause-accepted c = search running
 
-pub travel-requires-clause-most_in_bounds : goal.travel-requires-clause-most_in_bounds
-travel-requires-clause-most_in_bounds c = search running
+pub travel_by-requires-clause-most_in_bounds : goal.travel_by-requires-clause-most_in_bounds
+travel_by-requires-clause-most_in_bounds c = search running
 
 pub returns : goal.returns
 returns c = search running

@@ -7,11 +7,8 @@ step_verdict-v-requires c = search stepping
 pub enum_told-1 : goal.enum_told-1
 enum_told-1 c = search stepping
 
-pub header-requires : goal.header-requires
-header-requires c = search stepping
-
-pub take-requires : goal.take-requires
-take-requires c = search stepping
+pub step_taken-requires : goal.step_taken-requires
+step_taken-requires c = search stepping
 
 pub enum_known-v : goal.enum_known-v
 enum_known-v c = search stepping

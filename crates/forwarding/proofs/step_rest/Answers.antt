@@ -16,9 +16,6 @@ tables_length-requires c = search stepping
 pub need_room-room-requires : goal.need_room-room-requires
 need_room-room-requires c = search stepping
 
-pub lookup_number-number-requires : goal.lookup_number-number-requires
-lookup_number-number-requires c = search stepping
-
 pub refuse-lookups-requires : goal.refuse-lookups-requires
 refuse-lookups-requires c = search stepping
 

@@ -7,12 +7,6 @@ judge-v-requires c = search stepping
 pub enum_told-1 : goal.enum_told-1
 enum_told-1 c = search stepping
 
-pub header-requires : goal.header-requires
-header-requires c = search stepping
-
-pub step_rest-requires : goal.step_rest-requires
-step_rest-requires c = search stepping
-
 pub enum_told-in-Refused : goal.enum_told-in-Refused
 enum_told-in-Refused c = search stepping
 

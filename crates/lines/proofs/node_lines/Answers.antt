@@ -1,12 +1,11 @@
-use borrow.Author.Rules.{rules}
 use Rattle.lines.proofs.Wholes.{wholes}
 use Rattle.lines.proofs.node_lines.Goals as goal
 
 pub loop-t-init : goal.loop-t-init
-loop-t-init c = (search rules, search wholes)
+loop-t-init c = search wholes
 
 pub loop-t-preserved : goal.loop-t-preserved
-loop-t-preserved c = (search rules, search wholes)
+loop-t-preserved c = search wholes
 
 pub returns : goal.returns
 returns c = search wholes

@@ -1,8 +1,8 @@
 use Rattle.report.proofs.Answers.{answers}
 use Rattle.report.proofs.report_by.Goals as goal
 
-pub text_into-requires : goal.text_into-requires
-text_into-requires c = search answers
+pub invariant_of-text_into : goal.invariant_of-text_into
+invariant_of-text_into c = record { accepted = search answers; own = search answers }
 
 pub returns-in-Length : goal.returns-in-Length
 returns-in-Length c = search answers

@@ -13,8 +13,8 @@ loop-left-smaller c = search serve_less
 pub loop-left-preserved : goal.loop-left-preserved
 loop-left-preserved c = search serve_more
 
-pub returns-else-enough : goal.returns-else-enough
-returns-else-enough c = search serve_out
+pub returns-then-not-served : goal.returns-then-not-served
+returns-then-not-served c = search serve_out
 
 pub returns : goal.returns
 returns c = search serve_done

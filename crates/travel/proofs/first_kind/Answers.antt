@@ -4,11 +4,5 @@ use Rattle.travel.proofs.first_kind.Goals as goal
 pub returns-in-Unchanged : goal.returns-in-Unchanged
 returns-in-Unchanged c = search travelling
 
-pub returns-in-T : goal.returns-in-T
-returns-in-T c = search travelling
-
-pub returns-in-S : goal.returns-in-S
-returns-in-S c = search travelling
-
-pub returns-in-D : goal.returns-in-D
-returns-in-D c = search travelling
+pub returns-in_default : goal.returns-in_default
+returns-in_default c = search travelling

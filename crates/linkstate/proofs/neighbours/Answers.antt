@@ -1,5 +1,0 @@
-use Rattle.linkstate.proofs.Graph.{graph}
-use Rattle.linkstate.proofs.neighbours.Goals as goal
-
-pub returns : goal.returns
-returns c = search graph

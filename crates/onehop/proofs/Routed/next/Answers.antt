@@ -1,0 +1,5 @@
+use Rattle.onehop.proofs.Hops.{hop}
+use Rattle.onehop.proofs.Routed.next.Goals as goal
+
+pub returns : goal.returns
+returns c = search hop

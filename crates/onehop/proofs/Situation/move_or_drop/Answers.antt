@@ -1,0 +1,8 @@
+use Rattle.onehop.proofs.Hops.{hop}
+use Rattle.onehop.proofs.Situation.move_or_drop.Goals as goal
+
+pub returns-then-is_up : goal.returns-then-is_up
+returns-then-is_up c = search hop
+
+pub returns : goal.returns
+returns c = search hop

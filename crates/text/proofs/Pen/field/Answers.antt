@@ -1,0 +1,5 @@
+use Rattle.text.proofs.Texts.{texts}
+use Rattle.text.proofs.Pen.field.Goals as goal
+
+pub returns : goal.returns
+returns c = search texts

@@ -1,5 +1,0 @@
-use Rattle.text.proofs.Texts.{texts}
-use Rattle.text.proofs.labelled.Goals as goal
-
-pub returns : goal.returns
-returns c = search texts

@@ -1,8 +1,0 @@
-use Rattle.text.proofs.Texts.{texts}
-use Rattle.text.proofs.number.Goals as goal
-
-pub returns-then-x-lt10 : goal.returns-then-x-lt10
-returns-then-x-lt10 c = search texts
-
-pub returns : goal.returns
-returns c = search texts
