@@ -1,3 +1,2 @@
--- What digits mean, and that a written number is read back.
-pub mod Laws
+-- That a written number is read back.
 pub mod ReadBack

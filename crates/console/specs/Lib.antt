@@ -1,2 +1,2 @@
--- Room, and what digits mean.
+-- What digits mean.
 pub mod Numbers

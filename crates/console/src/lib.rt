@@ -6,15 +6,15 @@ mod number; // number.rt: what digits mean
 
 ghost use Rattle.std.specs.Prelude.{◌≤◌, length, IfOk};
 
-pub use number::{Number, number_in};
+pub use number::number_in;
 use std::env::{Env, FillError};
 use std::io;
 use std::io::{ErrorKind, Read, Write};
 
 // Argument i as a number; one that is missing, or too long for its room, is none. The program's own name is argument 0.
-pub fn argument<E: Env>(environment: &E, i: usize) -> Number {
+pub fn argument<E: Env>(environment: &E, i: usize) -> Option<u8> {
     let mut text = [0u8; 8];
-    let long = environment.arg(i, &mut text).unwrap_or(0);
+    let long = environment.arg(i, &mut text).ok()?;
     number_in(&text[..long])
 }
 
@@ -25,18 +25,16 @@ fn is_given<E: Env>(environment: &E, i: usize) -> bool {
 
 // How many arguments the program was started with, its own name among them.
 pub fn argument_count<E: Env>(environment: &E) -> usize {
-    for i in 0..usize::MAX {
-        if !is_given(environment, i) {
-            return i;
-        }
-    }
-    usize::MAX
+    (0..usize::MAX)
+        .take_while(|i| is_given(environment, *i))
+        .count()
 }
 
-// Reads until the room is full or the input ends, and returns how many bytes stand at the start of the room. Nothing past the room is read.
-// Rules out: the length of an input that the room does not hold; a count from one read twice, past the end of the room.
-pub fn read_full<R: Read>(input: &mut R, room: &mut [u8]) -> io::Result<usize>
-    ensures { IfOk result (λ long. long ≤ length room.new) }
+// Reads until the room is full, the input ends or a read fails: how many bytes stand at the start of the room, and whether a read failed.
+// A read that a signal interrupts is tried again, and nothing past the room is read.
+// Rules out: one byte more than were read `a_byte_that_no_read_gave`; a count from one read twice, past the end of the room.
+pub fn fill<R: Read>(input: &mut R, room: &mut [u8]) -> (usize, io::Result<()>)
+    ensures { result.0 ≤ length room.new }
 {
     let mut long = 0;
     for _ in 0..u64::MAX {
@@ -47,9 +45,19 @@ pub fn read_full<R: Read>(input: &mut R, room: &mut [u8]) -> io::Result<usize>
             Ok(0) => break,
             Ok(more) => long += more,
             Err(error) if error.kind() == ErrorKind::Interrupted => {}
-            Err(error) => return Err(error),
+            Err(error) => return (long, Err(error)),
         }
     }
+    (long, Ok(()))
+}
+
+// Reads until the room is full or the input ends, and returns how many bytes stand at the start of the room. Nothing past the room is read.
+// Rules out: the length of an input that the room does not hold; a count from one read twice, past the end of the room.
+pub fn read_full<R: Read>(input: &mut R, room: &mut [u8]) -> io::Result<usize>
+    ensures { IfOk result (λ long. long ≤ length room.new) }
+{
+    let (long, read) = fill(input, room);
+    read?;
     Ok(long)
 }
 

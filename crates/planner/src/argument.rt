@@ -1,45 +1,26 @@
 // The program's one argument: the cap.
-use console::{Number, argument, argument_count};
+use console::{argument, argument_count};
 use std::env::Env;
-use std::io;
-use std::io::Write;
+use std::fmt;
 
-// The graph's own count of nodes, or a number.
-#[derive(Clone, Copy)]
-pub enum Cap {
-    Own,
-    Given(u8),
-}
+// The arguments ask nothing that is understood. It is written as what was expected.
+#[derive(Clone, Copy, Debug)]
+pub struct Unclear;
 
-#[derive(Clone, Copy)]
-pub enum Asked {
-    Clear(Cap),
-    Unclear,
-}
-
-fn first<E: Env>(environment: &E) -> Asked {
-    let cap = argument(environment, 1);
-    match cap {
-        Number::Given(most) => Asked::Clear(Cap::Given(most)),
-        Number::Unclear => Asked::Unclear,
+impl fmt::Display for Unclear {
+    fn fmt<W: fmt::Write>(&self, f: &mut fmt::Formatter<W>) -> fmt::Result {
+        write!(
+            f,
+            "expected: planner, or planner CAP, with CAP a number from 0 to 255; the graph's file on standard input"
+        )
     }
 }
 
-// The arguments are counted with the program's own name.
-pub fn read<E: Env>(environment: &E) -> Asked {
-    let count = argument_count(environment);
-    if count < 2 {
-        return Asked::Clear(Cap::Own);
+// The cap that is asked for, if one is. The arguments are counted with the program's own name.
+pub fn read<E: Env>(environment: &E) -> Result<Option<u8>, Unclear> {
+    match argument_count(environment) {
+        0 | 1 => Ok(None),
+        2 => Ok(Some(argument(environment, 1).ok_or(Unclear)?)),
+        _ => Err(Unclear),
     }
-    if count > 2 {
-        return Asked::Unclear;
-    }
-    first(environment)
-}
-
-pub fn expected<W: Write>(out: &mut W) -> io::Result<()> {
-    writeln!(
-        out,
-        "expected: planner, or planner CAP, with CAP a number from 0 to 255; the graph's file on standard input"
-    )
 }

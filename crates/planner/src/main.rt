@@ -5,18 +5,10 @@
 
 mod argument; // argument.rt: the cap that is asked for
 
-use argument::{Asked, Cap};
 use console::{read_full, refused};
 use rules::{LengthAnswer, Network};
 use std::io;
 use std::io::Write;
-
-fn write_front<W: Write>(out: &mut W, file: &[u8], long: usize) -> io::Result<()> {
-    if long <= file.len() {
-        out.write_all(&file[..long])?;
-    }
-    Ok(())
-}
 
 fn build_into<W: Write, E: Write>(
     out: &mut W,
@@ -25,47 +17,40 @@ fn build_into<W: Write, E: Write>(
     cap: u8,
     file: &mut [u8],
 ) -> io::Result<()> {
-    let r = builder::build(graph, cap, file);
-    match r {
-        LengthAnswer::Length(long) => write_front(out, file, long),
+    match builder::build(graph, cap, file) {
+        LengthAnswer::Length(long) => out.write_all(file.get(..long).unwrap_or(&[])),
         LengthAnswer::Refused { number, place } => refused(errors, number, place),
     }
 }
 
-fn build<W: Write, E: Write>(out: &mut W, errors: &mut E, graph: &[u8], cap: u8) -> io::Result<()> {
+// The graph's count of nodes, or the largest cap where it is out of range.
+fn own_cap(graph: &[u8]) -> u8 {
+    match layout::header(graph).n {
+        n @ Network::MIN_NODES..=Network::MAX_NODES => n,
+        _ => Network::MAX_CAP,
+    }
+}
+
+fn plan<W: Write, E: Write>(
+    out: &mut W,
+    errors: &mut E,
+    graph: &[u8],
+    cap: Option<u8>,
+) -> io::Result<()> {
     let mut file = rooms::file_and_one();
+    let cap = cap.unwrap_or_else(|| own_cap(graph));
     build_into(out, errors, graph, cap, &mut file)
 }
 
-// The graph's count of nodes, or the largest cap where it is out of range.
-fn own_cap(graph: &[u8]) -> u8 {
-    let n = layout::header(graph).n;
-    if n < Network::MIN_NODES {
-        return Network::MAX_CAP;
-    }
-    if n > Network::MAX_NODES {
-        return Network::MAX_CAP;
-    }
-    n
-}
-
-fn plan<W: Write, E: Write>(out: &mut W, errors: &mut E, graph: &[u8], cap: Cap) -> io::Result<()> {
-    match cap {
-        Cap::Own => build(out, errors, graph, own_cap(graph)),
-        Cap::Given(most) => build(out, errors, graph, most),
-    }
-}
-
-fn read_and_plan(rt: &HostRuntime, cap: Cap) -> io::Result<()> {
+fn read_and_plan(rt: &HostRuntime, cap: Option<u8>) -> io::Result<()> {
     let mut graph = rooms::file_and_one();
     let long = read_full(&mut rt.stdin(), &mut graph)?;
     plan(&mut rt.stdout(), &mut rt.stderr(), &graph[..long], cap)
 }
 
 fn main(rt: HostRuntime) -> io::Result<()> {
-    let asked = argument::read(&rt);
-    match asked {
-        Asked::Clear(cap) => read_and_plan(&rt, cap),
-        Asked::Unclear => argument::expected(&mut rt.stderr()),
+    match argument::read(&rt) {
+        Ok(cap) => read_and_plan(&rt, cap),
+        Err(unclear) => writeln!(rt.stderr(), "{unclear}"),
     }
 }

@@ -5,145 +5,123 @@
 ghost use Rattle.std.specs.Prelude.{◌≡◌};
 ghost use Rattle.rules.specs.Verdict.{Accepted};
 ghost use Rattle.rules.specs.Judgement.{judge};
+ghost use Rattle.rules.specs.File.{header_of};
 
 use console::{read_full, refused};
 use intake::take_set;
-use linkstate::NetworkFile;
-use onehop::{Routed, Situation};
-use rules::{Failure, Journey, Packet, RunAnswer, Step, Verdict};
+use rules::{Failure, Journey, Network, Packet, RunAnswer, Step, Verdict};
 use std::io;
 use std::io::Write;
-use tracing::question::{Asked, Down, Question};
+use tracing::question::{Down, Question};
+use tracing::show::NoLink;
 use tracing::{question, show};
+
+// A set that was taken in, and its counts.
+#[derive(Clone, Copy)]
+struct Set<'a> {
+    file: &'a [u8],
+    net: Network,
+    ghost judged: { judge file.now ≡ Accepted },
+    ghost counted: { net ≡ header_of file.now },
+}
+
+// What a packet meets on its way: a set, the tables that its run left, and what is down.
+#[derive(Clone, Copy)]
+struct Scene<'a> {
+    set: Set<'a>,
+    tables: &'a [u8],
+    failure: Failure,
+}
 
 // ---- the hops
 
-// One hop, by the tables that the run left.
-fn one<'a>(file: &'a [u8], tables: &'a [u8], failure: Failure, p: Packet) -> Step
-    requires { judge file.now ≡ Accepted }
-{
-    let file = NetworkFile {
-        bytes: file,
-        net: layout::header(file),
-    };
-    let routed = Routed { file, tables };
-    Situation { routed, failure }.take(p)
-}
-
-// One hop and its line; the packet after it.
-fn seen<W: Write>(
-    out: &mut W,
-    file: &[u8],
-    tables: &[u8],
-    failure: Failure,
-    p: Packet,
-) -> io::Result<Packet>
-    requires { judge file.now ≡ Accepted }
-{
-    let step = one(file, tables, failure, p);
-    match step {
-        Step::Moved(q, kind) => {
-            show::hop(out, p, q, kind)?;
-            Ok(q)
+impl<'a> Scene<'a> {
+    // One hop and its line; the packet after it.
+    fn hop<W: Write>(self, out: &mut W, p: Packet) -> io::Result<Packet> {
+        let set = self.set;
+        match onehop::take(set.file, set.net, self.tables, self.failure, p) {
+            Step::Moved(q, kind) => {
+                show::hop(out, p, q, kind)?;
+                Ok(q)
+            }
+            Step::Delivered(q) | Step::Dropped(q) => Ok(q),
         }
-        Step::Delivered(q) => Ok(q),
-        Step::Dropped(q) => Ok(q),
     }
-}
 
-fn hops<W: Write>(
-    out: &mut W,
-    file: &[u8],
-    tables: &[u8],
-    failure: Failure,
-    start: Packet,
-    count: u8,
-) -> io::Result<Packet>
-    requires { judge file.now ≡ Accepted }
-{
-    let mut p = start;
-    for _ in 0..count {
-        p = seen(out, file, tables, failure, p)?;
+    // The journey that the run made, hop by hop, and how it ended.
+    fn journey<W: Write>(self, out: &mut W, q: Question, j: Journey) -> io::Result<()> {
+        let mut p = Packet {
+            place: q.source,
+            destination: q.destination,
+            topology: 0,
+        };
+        for _ in 0..j.hops {
+            p = self.hop(out, p)?;
+        }
+        show::end(out, j, p.place)
     }
-    Ok(p)
-}
-
-fn ended<W: Write>(
-    out: &mut W,
-    file: &[u8],
-    tables: &[u8],
-    failure: Failure,
-    q: Question,
-    j: Journey,
-) -> io::Result<()>
-    requires { judge file.now ≡ Accepted }
-{
-    let start = Packet {
-        place: q.source,
-        destination: q.destination,
-        topology: 0,
-    };
-    let p = hops(out, file, tables, failure, start, j.hops)?;
-    show::end(out, j, p.place)
 }
 
 // ---- the run
 
-fn run_into<W: Write>(
-    out: &mut W,
-    file: &[u8],
-    q: Question,
-    failure: Failure,
-    tables: &mut [u8],
-    trail: &mut [u8],
-) -> io::Result<()>
-    requires { judge file.now ≡ Accepted }
-{
-    let r = forwarding::run(file, q.source, q.destination, failure, tables, trail);
-    match r {
-        RunAnswer::Ended(j) => ended(out, file, tables, failure, q, j),
-        RunAnswer::Refused { number, place } => refused(out, number, place),
+impl<'a> Set<'a> {
+    fn run<W: Write>(self, out: &mut W, q: Question, failure: Failure) -> io::Result<()> {
+        let mut tables = rooms::tables();
+        let mut trail = rooms::trail();
+        let r = forwarding::run(
+            self.file,
+            q.source,
+            q.destination,
+            failure,
+            &mut tables,
+            &mut trail,
+        );
+        match r {
+            RunAnswer::Ended(j) => {
+                let scene = Scene {
+                    set: self,
+                    tables: &tables,
+                    failure,
+                };
+                scene.journey(out, q, j)
+            }
+            RunAnswer::Refused { number, place } => refused(out, number, place),
+        }
     }
-}
 
-fn run<W: Write>(out: &mut W, file: &[u8], q: Question, failure: Failure) -> io::Result<()>
-    requires { judge file.now ≡ Accepted }
-{
-    let mut tables = rooms::tables();
-    let mut trail = rooms::trail();
-    run_into(out, file, q, failure, &mut tables, &mut trail)
-}
-
-// The failed link by its two ends.
-fn run_link<W: Write>(out: &mut W, file: &[u8], q: Question, a: u8, b: u8) -> io::Result<()>
-    requires { judge file.now ≡ Accepted }
-{
-    let held = NetworkFile {
-        bytes: file,
-        net: layout::header(file),
-    };
-    match held.link_between(a, b) {
-        Some(l) => run(out, file, q, Failure::Link(l)),
-        None => show::no_link(out, a, b),
+    // What is down as the set counts it: a link by its number.
+    fn failure(self, down: Down) -> Result<Failure, NoLink> {
+        match down {
+            Down::Nothing => Ok(Failure::Nothing),
+            Down::Link(a, b) => {
+                let l = linkstate::link_between(self.file, self.net, a, b);
+                if l < self.net.m {
+                    Ok(Failure::Link(l))
+                } else {
+                    Err(NoLink { a, b })
+                }
+            }
+            Down::Node(v) => Ok(Failure::Node(v)),
+        }
     }
-}
 
-fn answer<W: Write>(out: &mut W, file: &[u8], q: Question) -> io::Result<()>
-    requires { judge file.now ≡ Accepted }
-{
-    let down = q.down;
-    match down {
-        Down::Nothing => run(out, file, q, Failure::Nothing),
-        Down::Link(a, b) => run_link(out, file, q, a, b),
-        Down::Node(v) => run(out, file, q, Failure::Node(v)),
+    fn answer<W: Write>(self, out: &mut W, q: Question) -> io::Result<()> {
+        match self.failure(q.down) {
+            Ok(failure) => self.run(out, q, failure),
+            Err(no_link) => writeln!(out, "{no_link}"),
+        }
     }
 }
 
 // A file that is not taken in, or that is no set's, has no links to look for.
+#[tactic(auto, using(rules::proofs::File::TakenIn::set_file))]
 fn taken_in<W: Write>(out: &mut W, file: &[u8], q: Question) -> io::Result<()> {
-    let v = take_set(file);
-    match v {
-        Verdict::Accepted => answer(out, file, q),
+    match take_set(file) {
+        Verdict::Accepted => {
+            let net = layout::header(file);
+            let set = Set { file, net };
+            set.answer(out, q)
+        }
         Verdict::Refused { number, place } => refused(out, number, place),
     }
 }
@@ -155,9 +133,8 @@ fn read_and_answer(rt: &HostRuntime, q: Question) -> io::Result<()> {
 }
 
 fn main(rt: HostRuntime) -> io::Result<()> {
-    let asked = question::read(&rt);
-    match asked {
-        Asked::Clear(q) => read_and_answer(&rt, q),
-        Asked::Unclear => question::expected(&mut rt.stderr()),
+    match question::read(&rt) {
+        Ok(q) => read_and_answer(&rt, q),
+        Err(unclear) => writeln!(rt.stderr(), "{unclear}"),
     }
 }

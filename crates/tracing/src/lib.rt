@@ -4,4 +4,3 @@
 
 pub mod question; // question.rt: what is asked
 pub mod show; // show.rt: the lines
-mod word; // word.rt: the words among the arguments

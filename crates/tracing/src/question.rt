@@ -1,9 +1,7 @@
 // The question that the arguments ask.
-use crate::word::is_word;
-use console::{Number, argument, argument_count};
+use console::{argument, argument_count};
 use std::env::Env;
-use std::io;
-use std::io::Write;
+use std::fmt;
 
 // What is down: nothing, a link by its two ends, or a node.
 #[derive(Clone, Copy)]
@@ -20,69 +18,52 @@ pub struct Question {
     pub destination: u8,
 }
 
-#[derive(Clone, Copy)]
-pub enum Asked {
-    Clear(Question),
-    Unclear,
+// The arguments ask nothing that is understood. It is written as what was expected.
+#[derive(Clone, Copy, Debug)]
+pub struct Unclear;
+
+impl fmt::Display for Unclear {
+    fn fmt<W: fmt::Write>(&self, f: &mut fmt::Formatter<W>) -> fmt::Result {
+        write!(
+            f,
+            "expected: trace nothing SOURCE DESTINATION, or trace link A B SOURCE DESTINATION, or trace node V SOURCE DESTINATION, with numbers from 0 to 255; the set's file on standard input"
+        )
+    }
 }
 
-// The source and the destination stand at these places among the arguments.
-fn from_to<E: Env>(environment: &E, down: Down, from: usize, to: usize) -> Asked {
-    let Number::Given(source) = argument(environment, from) else {
-        return Asked::Unclear;
-    };
-    let Number::Given(destination) = argument(environment, to) else {
-        return Asked::Unclear;
-    };
-    let q = Question {
-        down,
-        source,
-        destination,
-    };
-    Asked::Clear(q)
+// Argument i is this word.
+fn is_word<E: Env>(environment: &E, i: usize, word: &[u8]) -> bool {
+    let mut text = [0u8; 8];
+    match environment.arg(i, &mut text) {
+        Ok(long) => &text[..long] == word,
+        Err(_) => false,
+    }
 }
 
-fn about_link<E: Env>(environment: &E) -> Asked {
-    let Number::Given(a) = argument(environment, 2) else {
-        return Asked::Unclear;
-    };
-    let Number::Given(b) = argument(environment, 3) else {
-        return Asked::Unclear;
-    };
-    from_to(environment, Down::Link(a, b), 4, 5)
+// Argument i as a number.
+fn number<E: Env>(environment: &E, i: usize) -> Result<u8, Unclear> {
+    argument(environment, i).ok_or(Unclear)
 }
 
-fn about_node<E: Env>(environment: &E) -> Asked {
-    let Number::Given(v) = argument(environment, 2) else {
-        return Asked::Unclear;
-    };
-    from_to(environment, Down::Node(v), 3, 4)
+// What is down, which begins at argument 1, where there are so many arguments.
+fn what_is_down<E: Env>(environment: &E, count: usize) -> Result<Down, Unclear> {
+    match count {
+        4 if is_word(environment, 1, b"nothing") => Ok(Down::Nothing),
+        5 if is_word(environment, 1, b"node") => Ok(Down::Node(number(environment, 2)?)),
+        6 if is_word(environment, 1, b"link") => {
+            Ok(Down::Link(number(environment, 2)?, number(environment, 3)?))
+        }
+        _ => Err(Unclear),
+    }
 }
 
-// The arguments are counted with the program's own name.
-pub fn read<E: Env>(environment: &E) -> Asked {
+// The arguments are counted with the program's own name. The last two are the source and the destination.
+pub fn read<E: Env>(environment: &E) -> Result<Question, Unclear> {
     let count = argument_count(environment);
-    if count == 4 {
-        if is_word(environment, 1, b"nothing") {
-            return from_to(environment, Down::Nothing, 2, 3);
-        }
-    }
-    if count == 5 {
-        if is_word(environment, 1, b"node") {
-            return about_node(environment);
-        }
-    }
-    if count == 6 {
-        if is_word(environment, 1, b"link") {
-            return about_link(environment);
-        }
-    }
-    Asked::Unclear
-}
-
-pub fn expected<W: Write>(out: &mut W) -> io::Result<()> {
-    writeln!(
-        out,
-        "expected: trace nothing SOURCE DESTINATION, or trace link A B SOURCE DESTINATION, or trace node V SOURCE DESTINATION, with numbers from 0 to 255; the set's file on standard input"
-    )
+    let down = what_is_down(environment, count)?;
+    Ok(Question {
+        down,
+        source: number(environment, count.saturating_sub(2))?,
+        destination: number(environment, count.saturating_sub(1))?,
+    })
 }

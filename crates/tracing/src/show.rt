@@ -1,24 +1,25 @@
 // The lines that are written.
 use rules::{Journey, Kind, Outcome, Packet};
-use std::io;
 use std::io::Write;
+use std::{fmt, io};
+use text::letter;
 
-pub fn no_link<W: Write>(out: &mut W, a: u8, b: u8) -> io::Result<()> {
-    writeln!(out, "no link joins {a} and {b}")
+// That no link has these two ends.
+#[derive(Clone, Copy, Debug)]
+pub struct NoLink {
+    pub a: u8,
+    pub b: u8,
 }
 
-fn letter(k: Kind) -> &'static str {
-    match k {
-        Kind::Unchanged => "-",
-        Kind::T => "T",
-        Kind::S => "S",
-        Kind::D => "D",
+impl fmt::Display for NoLink {
+    fn fmt<W: fmt::Write>(&self, f: &mut fmt::Formatter<W>) -> fmt::Result {
+        write!(f, "no link joins {} and {}", self.a, self.b)
     }
 }
 
 // The hop from p to q.
 pub fn hop<W: Write>(out: &mut W, p: Packet, q: Packet, kind: Kind) -> io::Result<()> {
-    let letter = letter(kind);
+    let letter = char::from(letter(kind));
     writeln!(
         out,
         "seen from {}: kind {letter} topology {} next {}",

@@ -1,2 +1,0 @@
--- That a set which is taken in is judged.
-pub mod Taken
