@@ -18,7 +18,10 @@ use Rattle.rules.specs.Basics.{need}
 use Rattle.rules.specs.File.{Set, header_of, set_of}
 use Rattle.rules.specs.Isolation.{neighbours, home}
 use Rattle.rules.specs.Forwarding.{Tables, entry_place, lent_tables, packet, move_or_drop, change_to, blocked, toward, step, alternate_number, change_number, toward_number, lookup_number}
-use Rattle.rules.proofs.Ground.Choices.{if_yes, if_no, need_yes, need_no}
+use Rattle.rules.specs.declared.Rule.{Rule}
+use Rattle.rules.specs.Verdict.{number_of}
+use Rattle.rules.proofs.Ground.Choices.{if_yes, if_no}
+use Rattle.rules.proofs.Ground.Ruling.{broken_first, broken_then}
 use Rattle.linkstate.specs.Links.{on}
 use Rattle.onehop.specs.Hop.{tables_at, kind_by, detour_by, detour_of, onward_number, step_at, lookup_at}
 use Rattle.onehop.specs.declared.Change.{Change}
@@ -138,12 +141,6 @@ pub ruleset hop = (entry_is, next_is, alternate_is, move_up, move_down, kind_sam
 -- ---- 15
 
 -- the test b as a call gave it
-pub found_yes : (t b : Bool) (number rest : ℕ) → t ≡ b → t ≡ true → rest ≡ need b number rest
-found_yes t b number rest e d = need_yes b number rest rest (sym e ∙ d) refl
-
-pub found_no : (t b : Bool) (number rest : ℕ) → t ≡ b → t ≡ false → number ≡ need b number rest
-found_no t b number rest e d = need_no b number rest number (sym e ∙ d) refl
-
 module _ (s tables : List ℕ) (p : Packet) where
   pub alternate_back : (v w x r : ℕ) → w ≡ v → x ≡ (tables_at s tables).alternate p.place v → r ≡ need (neighbours (set_of s) p.place x) 15 0
       → r ≡ alternate_number (set_of s) (tables_at s tables) p v w
@@ -155,9 +152,16 @@ module _ (s tables : List ℕ) (p : Packet) where
   unfolding alternate_number
   alternate_there v w e = sym (if_no (eqb w v) _ _ (ne_eqb w v e))
 
-  pub change_is : (v w x r : ℕ) → x ≡ alternate_number (set_of s) (tables_at s tables) p v w → r ≡ need (neighbours (set_of s) p.place w) 15 x → r ≡ change_number (set_of s) (tables_at s tables) p v w
+  pub change_first : (r : Rule) (v w : ℕ) → number_of r ≡ need (neighbours (set_of s) p.place w) 15 0 → number_of r ≡ change_number (set_of s) (tables_at s tables) p v w
   unfolding change_number
-  change_is v w x r d q = q ∙ ap (need (neighbours (set_of s) p.place w) 15) d
+  change_first r v w e = broken_first r (neighbours (set_of s) p.place w) 15 (alternate_number (set_of s) (tables_at s tables) p v w) e
+
+  pub change_then : (v w x : ℕ) → 0 ≡ need (neighbours (set_of s) p.place w) 15 0 → x ≡ alternate_number (set_of s) (tables_at s tables) p v w
+      → x ≡ change_number (set_of s) (tables_at s tables) p v w
+  unfolding change_number
+  change_then v w x e d = broken_then (neighbours (set_of s) p.place w) 14 (alternate_number (set_of s) (tables_at s tables) p v w) x e d
+
+pub ruleset changes = (change_first, change_then)
 
 module _ (s tables : List ℕ) (f : Failure) (p : Packet) where
   pub onward_up : (v : ℕ) (t : Bool) → t ≡ on s f p.place v → t ≡ true → 0 ≡ onward_number s tables f p v
@@ -179,12 +183,17 @@ module _ (s tables : List ℕ) (f : Failure) (p : Packet) where
   unfolding lookup_at lookup_number
   lookup_there e = sym (if_yes (eqb p.place p.destination) _ _ (eq-eqb p.place p.destination e))
 
-  pub lookup_onward : (v x r : ℕ) → (p.place ≡ p.destination → ⊥) → v ≡ (tables_at s tables).next p.topology p.place p.destination
-      → x ≡ onward_number s tables f p v → r ≡ need (neighbours (set_of s) p.place v) 15 x → r ≡ lookup_at s tables f p
-  unfolding lookup_at lookup_number toward_number onward_number
-  lookup_onward v x r e d y q =
-      q ∙ ap (need (neighbours (set_of s) p.place v) 15) y
-      ∙ ap (toward_number (set_of s) (tables_at s tables) (on s f) p) d
-      ∙ sym (if_no (eqb p.place p.destination) _ _ (ne_eqb p.place p.destination e))
+  module _ (v : ℕ) (e : p.place ≡ p.destination → ⊥) (d : v ≡ (tables_at s tables).next p.topology p.place p.destination) where
+    looked : need (neighbours (set_of s) p.place v) 15 (onward_number s tables f p v) ≡ lookup_at s tables f p
+    unfolding lookup_at lookup_number toward_number onward_number
+    looked = ap (toward_number (set_of s) (tables_at s tables) (on s f) p) d ∙ sym (if_no (eqb p.place p.destination) _ _ (ne_eqb p.place p.destination e))
 
-pub ruleset lookups = (alternate_back, alternate_there, change_is, onward_up, onward_later, onward_first, lookup_there, lookup_onward, found_yes, found_no)
+    pub lookup_first : (r : Rule) → number_of r ≡ need (neighbours (set_of s) p.place v) 15 0 → number_of r ≡ lookup_at s tables f p
+    lookup_first r q = broken_first r (neighbours (set_of s) p.place v) 15 (onward_number s tables f p v) q ∙ looked
+
+    pub lookup_then : (x : ℕ) → 0 ≡ need (neighbours (set_of s) p.place v) 15 0 → x ≡ onward_number s tables f p v → x ≡ lookup_at s tables f p
+    lookup_then x q y = broken_then (neighbours (set_of s) p.place v) 14 (onward_number s tables f p v) x q y ∙ looked
+
+pub ruleset looking = (lookup_there, lookup_first, lookup_then)
+
+pub ruleset lookups = (alternate_back, alternate_there, onward_up, onward_later, onward_first)

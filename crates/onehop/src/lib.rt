@@ -1,10 +1,10 @@
 // One hop of a packet by value, in the order of 01's rule: `take` promises the step that the rule makes of it, `detour` where it goes
-// in place of a next hop that it cannot reach, and `lookup_number` 15 where an entry that this step looks up is no neighbour. The tables
+// in place of a next hop that it cannot reach, and `lookup_rule` 15 where an entry that this step looks up is no neighbour. The tables
 // that are lent are read as they are, whatever they hold. Which hops are up is `linkstate`'s to say.
 #![tactic(auto)]
 
 ghost use Rattle.std.specs.Prelude.{◌≡◌, ◌<◌, get_or};
-ghost use Rattle.rules.specs.Verdict.{Accepted};
+ghost use Rattle.rules.specs.Verdict.{Accepted, broken};
 ghost use Rattle.rules.specs.File.{set_of};
 ghost use Rattle.rules.specs.Isolation.{neighbours};
 ghost use Rattle.rules.specs.Basics.{need};
@@ -14,7 +14,7 @@ ghost use Rattle.linkstate.specs.Links.{on};
 ghost use Rattle.onehop.specs.Hop.{tables_at, kind_by, detour_of, onward_number, step_at, lookup_at};
 
 use linkstate::NetworkFile;
-use rules::{Failure, Kind, Network, Packet, Step};
+use rules::{Failure, Kind, Network, Packet, Rule, Step, need};
 
 // The entry of table i for node u and node t, and 0 past the end of the tables.
 // Rules out: the entry for node t and node u; the entry of the table after.
@@ -90,26 +90,27 @@ impl Routed<'_> {
     // ---- 15: the entries that a change looks up, in its order
 
     // The entry that was found is a neighbour, or 15.
-    fn found(&self, u: u8, w: u8, rest: u8) -> u8
-        ensures { result ≡ need (neighbours (set_of self.now.file.bytes.now) u w) 15 rest }
+    fn found(&self, u: u8, w: u8) -> Result<(), Rule>
+        ensures { broken result ≡ need (neighbours (set_of self.now.file.bytes.now) u w) 15 0 }
     {
-        if self.file.neighbours(u, w) { rest } else { 15 }
+        need(self.file.neighbours(u, w), Rule::Lookup)
     }
 
-    fn alternate_number(&self, p: Packet, v: u8, w: u8) -> u8
-        ensures { result ≡ alternate_number (set_of self.now.file.bytes.now) (tables_at self.now.file.bytes.now self.now.tables.now) p v w }
+    fn alternate_rule(&self, p: Packet, v: u8, w: u8) -> Result<(), Rule>
+        ensures { broken result ≡ alternate_number (set_of self.now.file.bytes.now) (tables_at self.now.file.bytes.now self.now.tables.now) p v w }
     {
         if w == v {
-            return self.found(p.place, self.alternate(p.place, v), 0);
+            return self.found(p.place, self.alternate(p.place, v));
         }
-        0
+        Ok(())
     }
 
-    fn change_number(&self, p: Packet, v: u8, w: u8) -> u8
-        ensures { result ≡ change_number (set_of self.now.file.bytes.now) (tables_at self.now.file.bytes.now self.now.tables.now) p v w }
+    #[tactic(auto, using(crate::proofs::Hops::changes))]
+    fn change_rule(&self, p: Packet, v: u8, w: u8) -> Result<(), Rule>
+        ensures { broken result ≡ change_number (set_of self.now.file.bytes.now) (tables_at self.now.file.bytes.now self.now.tables.now) p v w }
     {
-        let rest = self.alternate_number(p, v, w);
-        self.found(p.place, w, rest)
+        self.found(p.place, w)?;
+        self.alternate_rule(p, v, w)
     }
 }
 
@@ -184,31 +185,32 @@ impl Situation<'_> {
     // ---- 15: the entries that the hop looks up, in its order
 
     // What is looked up once v is the next hop: nothing where the hop is up or the packet is in a backup topology.
-    fn onward_number(&self, p: Packet, v: u8) -> u8
-        ensures { result ≡ onward_number self.now.routed.file.bytes.now self.now.routed.tables.now self.now.failure p v }
+    fn onward_rule(&self, p: Packet, v: u8) -> Result<(), Rule>
+        ensures { broken result ≡ onward_number self.now.routed.file.bytes.now self.now.routed.tables.now self.now.failure p v }
     {
         if self.is_up(p.place, v) {
-            return 0;
+            return Ok(());
         }
         if p.topology != 0 {
-            return 0;
+            return Ok(());
         }
         let there = self.routed.file.home(v);
         let w = self.routed.next(there, p.place, p.destination);
-        self.routed.change_number(p, v, w)
+        self.routed.change_rule(p, v, w)
     }
 
-    // 15 where an entry that the hop looks up is no neighbour, else 0.
-    // Rules out: 15 for a neighbour, seen from the link's end b `linkstate/the_failed_link_crossed_from_its_other_end`; 0 where an
+    // 15 where an entry that the hop looks up is no neighbour.
+    // Rules out: 15 for a neighbour, seen from the link's end b `linkstate/the_failed_link_crossed_from_its_other_end`; none where an
     // entry that is looked up is no neighbour.
-    pub fn lookup_number(&self, p: Packet) -> u8
-        ensures { result ≡ lookup_at self.now.routed.file.bytes.now self.now.routed.tables.now self.now.failure p }
+    #[tactic(auto, using(crate::proofs::Hops::looking))]
+    pub fn lookup_rule(&self, p: Packet) -> Result<(), Rule>
+        ensures { broken result ≡ lookup_at self.now.routed.file.bytes.now self.now.routed.tables.now self.now.failure p }
     {
         if p.place == p.destination {
-            return 0;
+            return Ok(());
         }
         let v = self.routed.next(p.topology, p.place, p.destination);
-        let rest = self.onward_number(p, v);
-        self.routed.found(p.place, v, rest)
+        self.routed.found(p.place, v)?;
+        self.onward_rule(p, v)
     }
 }

@@ -1,5 +1,5 @@
 use Rattle.onehop.proofs.Hops.{lookups}
-use Rattle.onehop.proofs.Situation.onward_number.Goals as goal
+use Rattle.onehop.proofs.Situation.onward_rule.Goals as goal
 
 pub returns-then-is_up : goal.returns-then-is_up
 returns-then-is_up c = search lookups

@@ -1,5 +1,5 @@
 use Rattle.onehop.proofs.Hops.{lookups}
-use Rattle.onehop.proofs.Routed.alternate_number.Goals as goal
+use Rattle.onehop.proofs.Routed.alternate_rule.Goals as goal
 
 pub returns-then-w-v : goal.returns-then-w-v
 returns-then-w-v c = search lookups
