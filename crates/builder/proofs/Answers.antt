@@ -1,5 +1,5 @@
 -- What the builder answers and leaves, verdict by verdict.
-use Rattle.std.specs.Prelude.{Ok}
+use Rattle.std.specs.Prelude.{Ok, Err}
 use mathlib.Core.Path.{◌≡◌, refl, sym, ap, subst, ◌∙◌}
 use mathlib.Core.Bool.{Bool, true, false}
 use mathlib.Core.List.{List, [], ◌∷◌}
@@ -9,7 +9,9 @@ use lib.Dec.{leb}
 use lib.ListN.{length, take, replicate, length-replicate}
 use borrow.Author.Tests.{leb-true}
 use Rattle.rules.specs.declared.Network.{Network}
-use Rattle.rules.specs.Verdict.{Verdict, Accepted, Refused}
+use Rattle.rules.specs.declared.Rule.{Rule}
+use Rattle.rules.specs.declared.Refusal.{Refusal}
+use Rattle.rules.specs.Verdict.{Verdict, Accepted, Refused, number_of}
 use Rattle.rules.specs.Basics.{need, all, laid}
 use Rattle.rules.specs.Limits.{file_length}
 use Rattle.rules.specs.File.{Set, encode, header_of, set_of}
@@ -18,7 +20,8 @@ use Rattle.rules.specs.Judgement.{refuse, and_then, judge, take_in, need_graph, 
 use Rattle.rules.specs.Answers.{LengthAnswer, tell, length_tells, tells}
 use Rattle.rules.specs.Entries.Entry.{on_accept, Promise}
 use Rattle.rules.specs.Entries.Build.{built_from, build_entry}
-use Rattle.rules.proofs.Ground.Choices.{need_yes, need_no, need_ok, refuse_no, refuse_ok, refuse_zero, then_ok, then_no, then_first, then_second, then_assoc}
+use Rattle.rules.proofs.Ground.Choices.{need_yes, need_no, need_ok, refuse_no, refuse_ok, refuse_zero, then_ok, then_no, then_both, then_assoc}
+use Rattle.rules.proofs.Ground.Ruling.{number_some}
 use Rattle.rules.proofs.File.SetOfBytes.{net_held}
 use Rattle.rules.proofs.File.Records.{file_meets}
 use Rattle.rules.proofs.File.Accepted as accepted
@@ -38,9 +41,9 @@ use Rattle.filling.proofs.Written.{written_is}
 
 -- ---- the two ways of an answer
 
-gives_refused : (v : Verdict) (S : Set) (d : List ℕ) (number place : ℕ) → v ≡ Refused number place → Gives v S d (long.Refused number place) d
+gives_refused : (v : Verdict) (S : Set) (d : List ℕ) (r : Refusal) → v ≡ Refused (number_of r.rule) r.place → Gives v S d (Err r) d
 unfolding tells tell on_accept
-gives_refused v S d number place e = rw e (record { answer = refl; lent = refl })
+gives_refused v S d r e = rw e (record { answer = refl; lent = refl })
 
 gives_length : (v : Verdict) (S : Set) (d f : List ℕ) (bytes : ℕ) → v ≡ Accepted → bytes ≡ file_length S.net → f ≡ laid (encode S) d → Gives v S d (Ok bytes) f
 unfolding tells tell on_accept
@@ -74,22 +77,22 @@ module _ (s homes d : List ℕ) (net set : Network) (k bytes : ℕ) (en : net �
   long_is : bytes ≡ file_length (filled (set_of s) homes).net
   long_is = eb ∙ ap file_length set_is
 
-  room_is : (v : Verdict) → v ≡ refuse (need (leb bytes (length d)) 14 0) 0 → v ≡ need_room (file_length (filled (set_of s) homes).net) d
+  pub room_is : (v : Verdict) → v ≡ refuse (need (leb bytes (length d)) 14 0) 0 → v ≡ need_room (file_length (filled (set_of s) homes).net) d
   unfolding need_room
   room_is v ev = ev ∙ rw long_is
 
   -- the lent file has room
-  pub room_there : (v : Verdict) → v ≡ refuse (need (leb bytes (length d)) 14 0) 0 → v ≡ Accepted → file_length set ≤ length d
-  room_there v ev t = rw (← eb) (leb-true bytes (length d) (need_ok (leb bytes (length d)) 13 0 (refuse_zero _ 0 (sym ev ∙ t))).0)
+  pub room_there : Accepted ≡ refuse (need (leb bytes (length d)) 14 0) 0 → file_length set ≤ length d
+  room_there t = rw (← eb) (leb-true bytes (length d) (need_ok (leb bytes (length d)) 13 0 (refuse_zero _ 0 (sym t))).0)
 
-  pub no_room : (v : Verdict) (number place : ℕ) → v ≡ refuse (need (leb bytes (length d)) 14 0) 0 → v ≡ Refused number place
-      → Gives (need_room (file_length (filled (set_of s) homes).net) d) (filled (set_of s) homes) d (long.Refused number place) d
-  no_room v number place ev t = gives_refused _ (filled (set_of s) homes) d number place (sym (room_is v ev) ∙ t)
+  pub no_room : (r : Refusal) → Refused (number_of r.rule) r.place ≡ refuse (need (leb bytes (length d)) 14 0) 0
+      → Gives (need_room (file_length (filled (set_of s) homes).net) d) (filled (set_of s) homes) d (Err r) d
+  no_room r t = gives_refused _ (filled (set_of s) homes) d r (sym (room_is _ t))
 
-  pub room : (v : Verdict) (f : List ℕ) → v ≡ refuse (need (leb bytes (length d)) 14 0) 0 → v ≡ Accepted → f ≡ put d 0 (filled_file s homes set)
+  pub room : (f : List ℕ) → Accepted ≡ refuse (need (leb bytes (length d)) 14 0) 0 → f ≡ put d 0 (filled_file s homes set)
       → Gives (need_room (file_length (filled (set_of s) homes).net) d) (filled (set_of s) homes) d (Ok bytes) f
-  room v f ev t ef =
-      gives_length _ (filled (set_of s) homes) d f bytes (sym (room_is v ev) ∙ t) long_is (ef ∙ written_is s homes d set set_is (room_there v ev t))
+  room f t ef =
+      gives_length _ (filled (set_of s) homes) d f bytes (sym (room_is _ t)) long_is (ef ∙ written_is s homes d set set_is (room_there t))
 
 words_are : (s nb : List ℕ) (net : Network) → judge s ≡ Accepted → net ≡ header_of s → nb ≡ neighbour_words s net.m → WordsOf (set_of s) nb
 words_are s nb net a en eb = rw (eb, en) (words_of s (accepted_few s a))
@@ -116,19 +119,17 @@ module _ (s nb homes d : List ℕ) (net : Network) (cap r : ℕ) (a : judge s �
   placed_is = subst (λ (h : Network). Placed nb h.n cap homes r) same_net P
 
   -- a node is not placed: 9 or 10
-  pub not_placed : (v : Verdict) (S : Set) (number : ℕ) → r < net.n → number ≡ need (all_spared nb net.n net.n) 9 10
-      → Gives (and_then (need_fit (set_of s) cap) v) S d (long.Refused number 0) d
+  pub not_placed : (v : Verdict) (S : Set) (rule : Rule) (q : Refusal) → r < net.n → number_of rule ≡ need (all_spared nb net.n net.n) 9 10
+      → q ≡ record { rule = rule; place = 0 } → Gives (and_then (need_fit (set_of s) cap) v) S d (Err q) d
   unfolding need_fit build_number need
-  not_placed v S number h e =
+  not_placed v S rule q h e eq =
+      let number : ℕ = number_of rule in
       let f = passed_cap (set_of s) nb words cap homes r placed_is (subst (λ (x : Network). r < x.n) same_net h) in
       let t = subst (λ (x : Network). all_spared nb x.n x.n ≡ all (spared (set_of s)) (set_of s).net.n) (sym same_net) (all_spared_same (set_of s) nb words) in
-      gives_refused (and_then (need_fit (set_of s) cap) v) S d number 0
+      gives_refused (and_then (need_fit (set_of s) cap) v) S d q
       (then_no (need_fit (set_of s) cap) v number 0
-      (ap (λ (x : ℕ). refuse x 0) (rw f (sym (e ∙ ap (λ (q : Bool). need q 9 10) t))) ∙ refuses number (λ z. some (all_spared nb net.n net.n) (sym e ∙ z))))
-    where
-      some : (q : Bool) → need q 9 10 ≡ 0 → ⊥
-      some true z = omega arith
-      some false z = omega arith
+      (ap (λ (x : ℕ). refuse x 0) (rw f (sym (e ∙ ap (λ (b : Bool). need b 9 10) t))) ∙ refuses number (number_some rule))
+      ∙ ap (λ (x : Refusal). Refused (number_of x.rule) x.place) (sym eq))
 
   -- every node is placed: neither 9 nor 10
   pub all_fitted : (w : LengthAnswer) (f : List ℕ) → net.n ≤ r → Gives (need_room (file_length (filled (set_of s) homes).net) d) (filled (set_of s) homes) d w f
@@ -157,32 +158,25 @@ module _ (s d f : List ℕ) (cap : ℕ) (r : LengthAnswer) where
         lent = g.lent ∙ ap (λ (v : Verdict). on_accept v (laid (encode (built (set_of s) cap)) d) d) (sym e);
       }
 
-  pub build_on : (v : Verdict) → v ≡ Accepted → v ≡ and_then (take_in s) (and_then (need_graph (header_of s)) (need_cap cap))
+  pub build_on : (h : Network) → h ≡ header_of s → Accepted ≡ take_in s → Accepted ≡ need_graph h → Accepted ≡ need_cap cap
       → Gives (and_then (need_fit (set_of s) cap) (need_room (file_length (built (set_of s) cap).net) d)) (built (set_of s) cap) d r f → Promise build_entry (record { file = s; cap = cap }) d r f
-  build_on v t e g = promised (gives_on (and_then (take_in s) (and_then (need_graph (header_of s)) (need_cap cap))) _ (built (set_of s) cap) d r f (sym e ∙ t) g)
+  build_on h eh t a c g =
+      promised (gives_on (and_then (take_in s) (and_then (need_graph (header_of s)) (need_cap cap))) _ (built (set_of s) cap) d r f
+      (then_both (take_in s) _ (sym t) (then_both (need_graph (header_of s)) (need_cap cap) (ap need_graph (sym eh) ∙ sym a) (sym c))) g)
 
-pub build_stop : (s d : List ℕ) (cap : ℕ) (v : Verdict) (number place : ℕ) → v ≡ Refused number place → v ≡ and_then (take_in s) (and_then (need_graph (header_of s)) (need_cap cap))
-    → Promise build_entry (record { file = s; cap = cap }) d (long.Refused number place) d
-build_stop s d cap v number place t e =
-    promised s d d cap (long.Refused number place)
-    (gives_refused (and_then (and_then (take_in s) (and_then (need_graph (header_of s)) (need_cap cap))) (and_then (need_fit (set_of s) cap) (need_room (file_length (built (set_of s) cap).net) d))) (built (set_of s) cap) d number place
-    (then_no (and_then (take_in s) (and_then (need_graph (header_of s)) (need_cap cap))) _ number place (sym e ∙ t)))
+pub graph_asked : (s : List ℕ) (h : Network) (v : Verdict) → h ≡ header_of s → v ≡ need_graph h → v ≡ need_graph (header_of s)
+graph_asked s h v eh e = e ∙ ap need_graph eh
 
-pub judged : (s : List ℕ) (cap : ℕ) (v : Verdict) → v ≡ Accepted → v ≡ and_then (take_in s) (and_then (need_graph (header_of s)) (need_cap cap)) → judge s ≡ Accepted
-judged s cap v t e = taken_file s (then_first (take_in s) (and_then (need_graph (header_of s)) (need_cap cap)) (sym e ∙ t))
+pub judged : (s : List ℕ) → Accepted ≡ take_in s → judge s ≡ Accepted
+judged s t = taken_file s (sym t)
 
-pub cap_most : (s : List ℕ) (cap : ℕ) (v : Verdict) → v ≡ Accepted → v ≡ and_then (take_in s) (and_then (need_graph (header_of s)) (need_cap cap)) → cap ≤ 32
+pub cap_most : (cap : ℕ) → Accepted ≡ need_cap cap → cap ≤ 32
 unfolding need_cap
-cap_most s cap v t e =
-    let a = then_second (need_graph (header_of s)) (need_cap cap) (then_second (take_in s) (and_then (need_graph (header_of s)) (need_cap cap)) (sym e ∙ t)) in
-    let p = need_ok (leb 1 cap) 10 (need (leb cap 32) 11 0) (refuse_zero (need (leb 1 cap) 11 (need (leb cap 32) 11 0)) 0 a) in
+cap_most cap t =
+    let p = need_ok (leb 1 cap) 10 (need (leb cap 32) 11 0) (refuse_zero (need (leb 1 cap) 11 (need (leb cap 32) 11 0)) 0 (sym t)) in
     leb-true cap 32 (need_ok (leb cap 32) 10 0 p.1).0
 
--- ---- the verdicts before it
-
-pub input_is : (s : List ℕ) (h : Network) (cap : ℕ) (j g c rest v : Verdict) → j ≡ take_in s → g ≡ need_graph h → h ≡ header_of s → c ≡ need_cap cap → rest ≡ and_then g c
-    → v ≡ and_then j rest → v ≡ and_then (take_in s) (and_then (need_graph (header_of s)) (need_cap cap))
-input_is s h cap j g c rest v ej eg eh ec er ev = ev ∙ rw (ej, er, eg, eh, ec)
+pub ruleset building = (graph_asked, judged, cap_most)
 
 -- ---- the room for the homes
 

@@ -5,10 +5,10 @@
 #![tactic(auto)]
 
 ghost use Rattle.std.specs.Prelude.{◌≡◌, ◌≤◌, length, replicate};
-ghost use Rattle.rules.specs.Verdict.{Accepted};
+ghost use Rattle.rules.specs.Verdict.{Accepted, number_of};
 ghost use Rattle.rules.specs.Basics.{need};
 ghost use Rattle.rules.specs.File.{header_of};
-ghost use Rattle.rules.specs.Judgement.{and_then, judge, take_in, need_graph, need_cap};
+ghost use Rattle.rules.specs.Judgement.{judge};
 ghost use Rattle.rules.specs.Entries.Entry.{Promise};
 ghost use Rattle.rules.specs.Entries.Build.{build_entry};
 ghost use Rattle.intake.specs.Graph.{neighbour_words};
@@ -19,41 +19,37 @@ use filling::put_set;
 use firstfit::{all_spared, first_fit, highest};
 use intake::{neighbour_words, take_in};
 use layout::header;
-use needs::{need_cap, need_graph, need_room, then};
-use rules::{LengthAnswer, Network, Verdict};
+use needs::{need_cap, need_graph, need_room};
+use rules::{Network, Refusal, Rule};
 
 // ---- the answer
 
 // The set with these homes, written where the file has room for it.
-fn finish(graph: &[u8], net: Network, homes: &[u8], file: &mut [u8]) -> LengthAnswer
-    requires graph_value { judge graph.now ≡ Accepted }
-    requires net_value { net ≡ header_of graph.now }
+#[tactic(auto, using(rules::proofs::Entries::Answering::promising, crate::proofs::Answers::room_is), unfolding(rules::specs::Answers::tells))]
+fn finish(graph: &[u8], net: Network, homes: &[u8], file: &mut [u8]) -> Result<usize, Refusal>
+    requires judged { judge graph.now ≡ Accepted }
+    requires its_header { net ≡ header_of graph.now }
     requires homes_len { length homes.now ≡ net.n }
     ensures { FilledIn graph.now homes.now file.old result file.new }
 {
     let k = highest(homes);
     let set = Network::header(net.n, net.m, k, net.wmax);
     let long = set.file_length();
-    let room = need_room(long, file.len());
-    match room {
-        Verdict::Accepted => {
-            put_set(graph, homes, file, set);
-            LengthAnswer::Length(long)
-        }
-        Verdict::Refused { number, place } => LengthAnswer::Refused { number, place },
-    }
+    need_room(long, file.len())?;
+    put_set(graph, homes, file, set);
+    Ok(long)
 }
 
 // Why first fit did not place every node: 9 where some one node holds the others together, else 10.
-fn unplaced_number(nb: &[u32], n: u8) -> u8
+#[tactic(auto, using(crate::proofs::Answers::no_one, crate::proofs::Answers::some_one))]
+fn unplaced(nb: &[u32], n: u8) -> Rule
     requires { (1 ≤ n) × (n ≤ 32) }
-    ensures { result ≡ need (all_spared nb.now n n) 9 10 }
+    ensures { number_of result ≡ need (all_spared nb.now n n) 9 10 }
 {
-    let whole = all_spared(nb, n);
-    if whole {
-        return 10;
+    if all_spared(nb, n) {
+        return Rule::Cap;
     }
-    9
+    Rule::CutNode
 }
 
 // First fit, then the file. Where every node is placed no one node holds the others together, so 9 is asked only where one is not.
@@ -64,29 +60,34 @@ fn fit(
     nb: &[u32],
     homes: &mut [u8],
     file: &mut [u8],
-) -> LengthAnswer
-    requires graph_value { judge graph.now ≡ Accepted }
-    requires net_value { net ≡ header_of graph.now }
+) -> Result<usize, Refusal>
+    requires judged { judge graph.now ≡ Accepted }
+    requires its_header { net ≡ header_of graph.now }
     requires cap_bound { cap ≤ 32 }
-    requires nb_value { nb.now ≡ neighbour_words graph.now net.m }
-    requires homes_value { homes.old ≡ replicate net.n 0 }
+    requires its_words { nb.now ≡ neighbour_words graph.now net.m }
+    requires no_homes { homes.old ≡ replicate net.n 0 }
     ensures { BuiltIn graph.now cap file.old result file.new }
 {
     let placed = first_fit(nb, net.n, cap, homes);
     if placed < net.n {
-        let number = unplaced_number(nb, net.n);
-        return LengthAnswer::Refused { number, place: 0 };
+        return Err(unplaced(nb, net.n).at(0));
     }
     finish(graph, net, homes, file)
 }
 
 // First fit in room of its own, one home for each node.
-fn fit_nodes(graph: &[u8], net: Network, cap: u8, nb: &[u32], file: &mut [u8]) -> LengthAnswer
-    requires graph_value { judge graph.now ≡ Accepted }
-    requires net_value { net ≡ header_of graph.now }
+fn fit_nodes(
+    graph: &[u8],
+    net: Network,
+    cap: u8,
+    nb: &[u32],
+    file: &mut [u8],
+) -> Result<usize, Refusal>
+    requires judged { judge graph.now ≡ Accepted }
+    requires its_header { net ≡ header_of graph.now }
     requires n_bound { net.n ≤ 32 }
     requires cap_bound { cap ≤ 32 }
-    requires nb_value { nb.now ≡ neighbour_words graph.now net.m }
+    requires its_words { nb.now ≡ neighbour_words graph.now net.m }
     ensures { BuiltIn graph.now cap file.old result file.new }
 {
     let mut homes = [0u8; Network::MOST_NODES];
@@ -95,8 +96,8 @@ fn fit_nodes(graph: &[u8], net: Network, cap: u8, nb: &[u32], file: &mut [u8]) -
 }
 
 // The set of a graph that is accepted, with a cap that is.
-fn build_graph(graph: &[u8], cap: u8, file: &mut [u8]) -> LengthAnswer
-    requires graph_value { judge graph.now ≡ Accepted }
+fn build_graph(graph: &[u8], cap: u8, file: &mut [u8]) -> Result<usize, Refusal>
+    requires judged { judge graph.now ≡ Accepted }
     requires cap_bound { cap ≤ 32 }
     ensures { BuiltIn graph.now cap file.old result file.new }
 {
@@ -105,26 +106,17 @@ fn build_graph(graph: &[u8], cap: u8, file: &mut [u8]) -> LengthAnswer
     fit_nodes(graph, net, cap, &nb, file)
 }
 
-// What is refused before anything is built: 1 to 8, then 13 where a set is given, then 11 for the cap.
-fn input_verdict(graph: &[u8], cap: u8) -> Verdict
-    ensures { result ≡ and_then (take_in graph.now) (and_then (need_graph (header_of graph.now)) (need_cap cap)) }
-{
-    let alone = need_graph(header(graph));
-    let range = need_cap(cap);
-    then(take_in(graph), then(alone, range))
-}
-
 // The entry: a set for a graph with at most so many topologies, into a lent file.
 // Rules out: a node put into the last topology, where an earlier one admits it `firstfit/search_from_the_last_topology`; 10 where
 // a node other than the first holds the others together, which is 9 `firstfit/only_the_first_node_removed`; 13 for a set that breaks
 // 7, which is told first `thirteen_before_seven`; also `nine_where_ten_is_due`, `ten_where_nine_is_due`, `one_topology_tried`, `room_for_the_graph_alone`,
 // `firstfit/rules_for_the_new_node_only`.
-pub fn build(graph: &[u8], cap: u8, file: &mut [u8]) -> LengthAnswer
+#[tactic(auto, using(rules::proofs::Entries::Answering::promising, rules::proofs::Ground::Ruling::asking, crate::proofs::Answers::building), unfolding(rules::specs::Entries::Build::build_entry, rules::specs::Answers::tells))]
+pub fn build(graph: &[u8], cap: u8, file: &mut [u8]) -> Result<usize, Refusal>
     ensures { Promise build_entry (record { file = graph.now; cap = cap }) file.entry.now result file.exit.now }
 {
-    let v = input_verdict(graph, cap);
-    match v {
-        Verdict::Accepted => build_graph(graph, cap, file),
-        Verdict::Refused { number, place } => LengthAnswer::Refused { number, place },
-    }
+    take_in(graph)?;
+    need_graph(header(graph))?;
+    need_cap(cap)?;
+    build_graph(graph, cap, file)
 }

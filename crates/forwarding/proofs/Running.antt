@@ -1,5 +1,5 @@
 -- The entry `run`.
-use Rattle.std.specs.Prelude.{Ok}
+use Rattle.std.specs.Prelude.{Ok, Err}
 use mathlib.Core.Path.{◌≡◌, refl, sym, ap, ap₂, ◌∙◌}
 use mathlib.Core.List.{List, ◌++◌}
 use Prim.Native.Nat.{ℕ, ◌≤◌, ◌<◌}
@@ -9,18 +9,19 @@ use lib.ListN.{length, take, drop}
 use lib.Seq.{length-take-le}
 use borrow.Author.Tests.{leb-true, ltb-true}
 use Rattle.rules.specs.declared.Network.{Network}
+use Rattle.rules.specs.declared.Refusal.{Refusal}
 use Rattle.rules.specs.declared.Packet.{Packet}
 use Rattle.rules.specs.declared.Failure.{Failure}
 use Rattle.rules.specs.declared.Journey.{Journey}
-use Rattle.rules.specs.Verdict.{Verdict, Accepted, Refused}
+use Rattle.rules.specs.Verdict.{Verdict, Accepted, Refused, number_of}
 use Rattle.rules.specs.Basics.{need, laid}
 use Rattle.rules.specs.Limits.{tables_length, most_hops, trail_room}
 use Rattle.rules.specs.File.{header_of, set_of}
 use Rattle.rules.specs.Distance.{table_bytes}
 use Rattle.rules.specs.Forwarding.{fault_of, tables_of, lent_tables, packet, Run, trail, run, run_under}
 use Rattle.rules.specs.Judgement.{judge, refuse, and_then, take_set, need_packet, need_source, need_room}
-use Rattle.rules.specs.Answers.{tell, journey_values, run_tells, tells}
-use Rattle.rules.specs.Entries.Entry.{on_accept, Promise}
+use Rattle.rules.specs.Answers.{accepted, tell, tells, journey_values}
+use Rattle.rules.specs.Entries.Entry.{on_accept}
 use Rattle.rules.specs.Entries.Run.{RunLent, run_of, run_values, run_entry}
 use Rattle.rules.specs.Sets.{WithinLimits}
 use Rattle.rules.proofs.Ground.Choices.{need_ok, refuse_zero, then_first, then_second}
@@ -92,20 +93,30 @@ run_made s start tables nodes t nodes' h bytes most f j n b m R g G =
 
 -- ---- the verdict
 
-module _ (s : List ℕ) (u t : ℕ) (f : Failure) (tables nodes : List ℕ) where
-  pub run_verdict_is : (x y a b : ℕ) (h : Network) (set range source room steps p q r v : Verdict) → h ≡ header_of s → set ≡ take_set s → range ≡ need_packet h (packet u t 0) f → source ≡ need_source u f → a ≡ tables_length h
-      → room ≡ refuse (need (leb a x) 14 0) 0 → b ≡ trail_room h → steps ≡ refuse (need (leb b y) 14 0) 0 → p ≡ and_then room steps → q ≡ and_then source p → r ≡ and_then range q → v ≡ and_then set r → v ≡ run_verdict (run_input s u t f) x y
-  unfolding run_verdict
-  run_verdict_is x y a b h set range source room steps p q r v n e1 e2 e3 e4 e5 e6 e7 d1 d2 d3 d4 = cc (ap (λ (k : Network). need_packet k (packet u t 0) f) n, ap tables_length n, ap trail_room n)
+-- what is asked of a file's network, by its header
+module _ (s : List ℕ) (h : Network) (n : h ≡ header_of s) where
+  pub packet_asked : (p : Packet) (f : Failure) (v : Verdict) → v ≡ need_packet h p f → v ≡ need_packet (header_of s) p f
+  packet_asked p f v e = e ∙ ap (λ (k : Network). need_packet k p f) n
 
+  pub tables_asked : (room long : ℕ) (v : Verdict) → long ≡ tables_length h → v ≡ refuse (need (leb long room) 14 0) 0
+      → v ≡ refuse (need (leb (tables_length (header_of s)) room) 14 0) 0
+  tables_asked room long v d e = e ∙ ap (λ (k : ℕ). refuse (need (leb k room) 14 0) 0) (d ∙ ap tables_length n)
+
+  pub trail_asked : (room long : ℕ) (v : Verdict) → long ≡ trail_room h → v ≡ refuse (need (leb long room) 14 0) 0
+      → v ≡ refuse (need (leb (trail_room (header_of s)) room) 14 0) 0
+  trail_asked room long v d e = e ∙ ap (λ (k : ℕ). refuse (need (leb k room) 14 0) 0) (d ∙ ap trail_room n)
+
+pub ruleset of_header = (packet_asked, tables_asked, trail_asked)
+
+module _ (s : List ℕ) (u t : ℕ) (f : Failure) (tables nodes : List ℕ) where
   verdict_same : run_entry.verdict (run_input s u t f) (run_lent tables nodes) ≡ run_verdict (run_input s u t f) (length tables) (length nodes)
   unfolding run_entry run_verdict need_room
   verdict_same = refl
 
-  pub run_ready : (v : Verdict) → v ≡ Accepted → v ≡ run_verdict (run_input s u t f) (length tables) (length nodes) → Ready s (packet u t 0) tables nodes
+  pub run_ready : Accepted ≡ run_verdict (run_input s u t f) (length tables) (length nodes) → Ready s (packet u t 0) tables nodes
   unfolding run_verdict need_packet
-  run_ready v e d =
-      let z : run_verdict (run_input s u t f) (length tables) (length nodes) ≡ Accepted = sym d ∙ e in
+  run_ready d =
+      let z : run_verdict (run_input s u t f) (length tables) (length nodes) ≡ Accepted = sym d in
       let r1 = then_second (take_set s) _ z in
       let p1 = need_ok _ _ _ (refuse_zero _ 0 (then_first _ _ r1)) in
       let p2 = need_ok _ _ _ p1.1 in
@@ -119,18 +130,30 @@ module _ (s : List ℕ) (u t : ℕ) (f : Failure) (tables nodes : List ℕ) wher
         room = leb-true _ _ (need_ok _ _ _ (refuse_zero _ 0 (then_second _ _ r2))).0;
       }
 
-  pub run_ended : (v : Verdict) (j : Journey) (after : RunLent) → v ≡ Accepted → v ≡ run_verdict (run_input s u t f) (length tables) (length nodes) → Ran s (packet u t 0) f (run_lent tables nodes) j after
-      → Promise run_entry (run_input s u t f) (run_lent tables nodes) (Ok j) after
-  unfolding run_entry tells run_of run_values journey_values journey_of tell on_accept
-  run_ended v j after e d R =
-      let z : run_entry.verdict (run_input s u t f) (run_lent tables nodes) ≡ Accepted = verdict_same ∙ sym d ∙ e in
-      record { answer = rw (z, R.answer); lent = rw z (λ i. record { tables = R.tables i; trail = R.trail i }) }
+  pub run_told : (j : Journey) (after : RunLent) → Accepted ≡ run_verdict (run_input s u t f) (length tables) (length nodes) → Ran s (packet u t 0) f (run_lent tables nodes) j after
+      → run_entry.tells (Ok j) ≡ tell (run_entry.verdict (run_input s u t f) (run_lent tables nodes)) (run_entry.gives (run_input s u t f) (run_lent tables nodes))
+  unfolding run_entry tells run_of run_values journey_values journey_of tell
+  run_told j after d R =
+      ap (λ (x : Journey). accepted (journey_values x)) R.answer
+      ∙ ap (λ (v : Verdict). tell v (run_entry.gives (run_input s u t f) (run_lent tables nodes))) (d ∙ sym verdict_same)
 
-  pub run_refused : (v : Verdict) (number place : ℕ) → v ≡ Refused number place → v ≡ run_verdict (run_input s u t f) (length tables) (length nodes) → Promise run_entry (run_input s u t f) (run_lent tables nodes) (ran.Refused number place) (run_lent tables nodes)
-  unfolding run_entry tells tell on_accept
-  run_refused v number place e d =
-      let z : run_entry.verdict (run_input s u t f) (run_lent tables nodes) ≡ Refused number place = verdict_same ∙ sym d ∙ e in
-      record { answer = rw z; lent = rw z }
+  pub run_left : (j : Journey) (after : RunLent) → Accepted ≡ run_verdict (run_input s u t f) (length tables) (length nodes) → Ran s (packet u t 0) f (run_lent tables nodes) j after
+      → after ≡ on_accept (run_entry.verdict (run_input s u t f) (run_lent tables nodes)) (run_entry.leaves (run_input s u t f) (run_lent tables nodes)) (run_lent tables nodes)
+  unfolding run_entry run_of on_accept
+  run_left j after d R =
+      (λ i. record { tables = R.tables i; trail = R.trail i })
+      ∙ ap (λ (v : Verdict). on_accept v (run_entry.leaves (run_input s u t f) (run_lent tables nodes)) (run_lent tables nodes)) (d ∙ sym verdict_same)
+
+  pub refusal_told : (r : Refusal) → Refused (number_of r.rule) r.place ≡ run_verdict (run_input s u t f) (length tables) (length nodes)
+      → run_entry.tells (Err r) ≡ tell (run_entry.verdict (run_input s u t f) (run_lent tables nodes)) (run_entry.gives (run_input s u t f) (run_lent tables nodes))
+  unfolding run_entry tells tell
+  refusal_told r e = ap (λ (v : Verdict). tell v (run_entry.gives (run_input s u t f) (run_lent tables nodes))) (e ∙ sym verdict_same)
+
+  pub refusal_left : (number place : ℕ) → Refused number place ≡ run_verdict (run_input s u t f) (length tables) (length nodes)
+      → run_lent tables nodes ≡ on_accept (run_entry.verdict (run_input s u t f) (run_lent tables nodes)) (run_entry.leaves (run_input s u t f) (run_lent tables nodes)) (run_lent tables nodes)
+  unfolding on_accept
+  refusal_left number place e =
+      ap (λ (v : Verdict). on_accept v (run_entry.leaves (run_input s u t f) (run_lent tables nodes)) (run_lent tables nodes)) (e ∙ sym verdict_same)
 
 -- two results that the promise allows coincide: the whole answer, and every byte of tables and trail
 pub one_journey : (s : List ℕ) (start : Packet) (f : Failure) (before after after' : RunLent) (r r' : Journey)
@@ -138,4 +161,6 @@ pub one_journey : (s : List ℕ) (start : Packet) (f : Failure) (before after af
 one_journey s start f before after after' r r' p q =
     (p.answer ∙ sym q.answer, ap₂ run_lent (p.tables ∙ sym q.tables) (p.trail ∙ sym q.trail))
 
-pub ruleset running = (nodes_low, nodes_high, prefix_long, tables_fit, tables_part, run_judged, is_set, trail_fits, run_made, run_verdict_is, run_ready, run_ended, run_refused)
+pub ruleset answering = (run_ready, run_told, run_left, refusal_told, refusal_left)
+
+pub ruleset running = (nodes_low, nodes_high, prefix_long, tables_fit, tables_part, run_judged, is_set, trail_fits, run_made)

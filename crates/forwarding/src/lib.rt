@@ -10,7 +10,7 @@ ghost use Rattle.rules.specs.Entries.Entry.{Promise};
 ghost use Rattle.rules.specs.Entries.Step.{step_entry};
 ghost use Rattle.rules.specs.Entries.Run.{run_entry};
 ghost use Rattle.rules.specs.Judgement.{judge};
-ghost use Rattle.rules.specs.Verdict.{Accepted};
+ghost use Rattle.rules.specs.Verdict.{Accepted, says};
 ghost use Rattle.onehop.specs.Hop.{step_at};
 ghost use Rattle.travel.specs.Trip.{RunsAs};
 ghost use Rattle.forwarding.specs.Steps.{step_input, step_rest, step_verdict};
@@ -20,9 +20,9 @@ use intake::take_set;
 use judgement::judge;
 use layout::header;
 use linkstate::NetworkFile;
-use needs::{need_packet, need_room, need_set, need_source, refuse, then};
+use needs::{need_packet, need_room, need_set, need_source};
 use onehop::{Routed, Situation};
-use rules::{Failure, Journey, Network, Packet, RunAnswer, Step, StepAnswer, Verdict};
+use rules::{Failure, Journey, Network, Packet, Refusal, Step, Verdict};
 use travel::travel;
 
 // ---- step
@@ -43,31 +43,25 @@ fn situation<'a>(file: &'a [u8], tables: &'a [u8], failure: Failure) -> Situatio
 }
 
 // What is asked once the file is accepted: 13, 11, 12, 14, 15.
+#[tactic(auto, using(rules::proofs::Ground::Ruling::asking, crate::proofs::Stepping::of_header), unfolding(crate::specs::Steps::step_rest))]
 fn step_rest(situation: &Situation, packet: Packet) -> Verdict
-    ensures { result ≡ step_rest (step_input situation.now.routed.file.bytes.now situation.now.routed.tables.now packet situation.now.failure) }
+    ensures { says result ≡ step_rest (step_input situation.now.routed.file.bytes.now situation.now.routed.tables.now packet situation.now.failure) }
 {
     let net = situation.routed.file.net;
-    let failure = situation.failure;
-    let set = need_set(net);
-    let range = need_packet(net, packet, failure);
-    let source = need_source(packet.place, failure);
-    let room = need_room(net.tables_length(), situation.routed.tables.len());
-    let number = situation.lookup_number(packet);
-    let lookups = refuse(number, 0);
-    then(set, then(range, then(source, then(room, lookups))))
+    need_set(net)?;
+    need_packet(net, packet, situation.failure)?;
+    need_source(packet.place, situation.failure)?;
+    need_room(net.tables_length(), situation.routed.tables.len())?;
+    situation.lookup_rule(packet)?;
+    Ok(())
 }
 
+#[tactic(auto, using(crate::proofs::Stepping::judging))]
 fn step_verdict<'a>(file: &'a [u8], tables: &'a [u8], packet: Packet, failure: Failure) -> Verdict
-    ensures { result ≡ step_verdict (step_input file.now tables.now packet failure) }
+    ensures { says result ≡ step_verdict (step_input file.now tables.now packet failure) }
 {
-    let v = judge(file);
-    match v {
-        Verdict::Accepted => step_rest(&situation(file, tables, failure), packet),
-        Verdict::Refused {
-            number: _,
-            place: _,
-        } => v,
-    }
+    judge(file)?;
+    step_rest(&situation(file, tables, failure), packet)
 }
 
 // The step that an accepted call makes.
@@ -81,18 +75,22 @@ fn step_taken<'a>(file: &'a [u8], tables: &'a [u8], packet: Packet, failure: Fai
 // One step of a packet by the tables that are lent, as they are.
 // Rules out: a packet in a backup topology sent on when its hop is down, not dropped `onehop/a_second_change_allowed`; 14 for
 // short tables where the packet stands at the failed node too, which is 12 `twelve_after_fourteen`.
-pub fn step(file: &[u8], tables: &[u8], packet: Packet, failure: Failure) -> StepAnswer
+#[tactic(auto, using(crate::proofs::Stepping::stepping))]
+pub fn step(
+    file: &[u8],
+    tables: &[u8],
+    packet: Packet,
+    failure: Failure,
+) -> Result<Step, Refusal>
     ensures { Promise step_entry (step_input file.now tables.now packet failure) tt result tt }
 {
-    let v = step_verdict(file, tables, packet, failure);
-    match v {
-        Verdict::Accepted => StepAnswer::Taken(step_taken(file, tables, packet, failure)),
-        Verdict::Refused { number, place } => StepAnswer::Refused { number, place },
-    }
+    step_verdict(file, tables, packet, failure)?;
+    Ok(step_taken(file, tables, packet, failure))
 }
 
 // ---- run
 
+#[tactic(auto, using(rules::proofs::Ground::Ruling::asking, crate::proofs::Running::of_header), unfolding(crate::specs::Runs::run_verdict))]
 fn run_verdict(
     file: &[u8],
     source: u8,
@@ -101,20 +99,19 @@ fn run_verdict(
     tables: usize,
     trail: usize,
 ) -> Verdict
-    ensures { result ≡ run_verdict (run_input file.now source destination failure) tables trail }
+    ensures { says result ≡ run_verdict (run_input file.now source destination failure) tables trail }
 {
     let net = header(file);
-    let set = take_set(file);
     let start = Packet {
         place: source,
         destination,
         topology: 0,
     };
-    let range = need_packet(net, start, failure);
-    let from = need_source(source, failure);
-    let room = need_room(net.tables_length(), tables);
-    let nodes = need_room(net.trail_room(), trail);
-    then(set, then(range, then(from, then(room, nodes))))
+    take_set(file)?;
+    need_packet(net, start, failure)?;
+    need_source(source, failure)?;
+    need_room(net.tables_length(), tables)?;
+    need_room(net.trail_room(), trail)
 }
 
 // The run by tables that are made already.
@@ -142,7 +139,7 @@ fn run_in(
     tables: &mut [u8],
     trail: &mut [u8],
 ) -> Journey
-    requires net_value { net ≡ header_of file.now }
+    requires its_header { net ≡ header_of file.now }
     requires ready { Ready file.now start tables.old trail.old }
     ensures { Ran file.now start failure (run_lent tables.old trail.old) result (run_lent tables.new trail.new) }
 {
@@ -154,6 +151,7 @@ fn run_in(
 // A packet's run from a source to its destination, with something down or nothing.
 // Rules out: delivered, where the packet was dropped `travel/delivery_claimed_for_a_drop`; a trail that does not begin with the
 // source `travel/the_trail_without_its_source`; also `taking_in_left_out_of_the_run`.
+#[tactic(auto, using(crate::proofs::Running::answering))]
 pub fn run(
     file: &[u8],
     source: u8,
@@ -161,27 +159,21 @@ pub fn run(
     failure: Failure,
     tables: &mut [u8],
     trail: &mut [u8],
-) -> RunAnswer
+) -> Result<Journey, Refusal>
     ensures { Promise run_entry (run_input file.now source destination failure) (run_lent tables.old trail.old) result (run_lent tables.new trail.new) }
 {
-    let v = run_verdict(
+    run_verdict(
         file,
         source,
         destination,
         failure,
         tables.len(),
         trail.len(),
-    );
-    match v {
-        Verdict::Accepted => {
-            let start = Packet {
-                place: source,
-                destination,
-                topology: 0,
-            };
-            let j = run_in(file, header(file), start, failure, tables, trail);
-            RunAnswer::Ended(j)
-        }
-        Verdict::Refused { number, place } => RunAnswer::Refused { number, place },
-    }
+    )?;
+    let start = Packet {
+        place: source,
+        destination,
+        topology: 0,
+    };
+    Ok(run_in(file, header(file), start, failure, tables, trail))
 }

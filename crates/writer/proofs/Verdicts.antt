@@ -30,13 +30,8 @@ use Rattle.writer.specs.Parts.{given_verdict, laid_verdict, Copied}
 
 -- ---- before anything is laid
 
-pub given_is : (h : Network) (counts a b weights homes rows : ℕ) (v w r : Verdict) → counts ≡ need_counts h 0 → v ≡ refuse counts 0 → w ≡ lists_verdict 1 h a b weights homes rows
-    → r ≡ and_then v w → r ≡ given_verdict h a b weights homes rows
-unfolding given_verdict
-given_is h counts a b weights homes rows v w r e p q d = d ∙ rw (p, q, e)
-
-pub given_taken : (h : Network) (a b weights homes rows : ℕ) (v : Verdict) → v ≡ given_verdict h a b weights homes rows → v ≡ Accepted → given_verdict h a b weights homes rows ≡ Accepted
-given_taken h a b weights homes rows v e t = sym e ∙ t
+pub given_taken : (h : Network) (a b weights homes rows : ℕ) → Accepted ≡ given_verdict h a b weights homes rows → given_verdict h a b weights homes rows ≡ Accepted
+given_taken h a b weights homes rows e = sym e
 
 -- counts within their limits have a file that the longest room holds
 module _ (h : Network) (a b weights homes rows long : ℕ) (e : given_verdict h a b weights homes rows ≡ Accepted) (q : long ≡ file_length h) where
@@ -60,29 +55,15 @@ pub ruleset Own-room = (room_held, part_counted, part_is)
 
 -- ---- a laid file
 
-pub laid_verdict_is : (s : List ℕ) (long room : ℕ) (u w v : Verdict) → u ≡ take_in s → long ≡ length s → w ≡ refuse (need (leb long room) 14 0) 0 → v ≡ and_then u w → v ≡ laid_verdict s room
-unfolding laid_verdict
-laid_verdict_is s long room u w v eu el ew ev = ev ∙ rw (eu, ew, el)
+-- an accepted one has room
+pub copy_fits : (long room : ℕ) → Accepted ≡ refuse (need (leb long room) 14 0) 0 → long ≤ room
+copy_fits long room t = leb-true _ _ (need_ok (leb long room) 13 0 (refuse_zero _ 0 (sym t))).0
 
-module _ (s before : List ℕ) (v : Verdict) (verdict_is : v ≡ laid_verdict s (length before)) where
-  -- an accepted one has room
-  pub copy_fits : v ≡ Accepted → length s ≤ length before
-  unfolding laid_verdict
-  copy_fits t = leb-true _ _ (need_ok (leb (length s) (length before)) 13 0 (refuse_zero _ 0 (then_second _ _ (sym verdict_is ∙ t)))).0
+pub laid_at : (s before after : List ℕ) → after ≡ s ++ drop (length s) before → after ≡ laid s before
+unfolding laid
+laid_at s before after e = e
 
-  pub copied_refused : (number place : ℕ) → v ≡ Refused number place → Copied s before (answer.Refused number place) before
-  unfolding tells tell on_accept
-  copied_refused number place t =
-      let same : laid_verdict s (length before) ≡ Refused number place = sym verdict_is ∙ t in
-      record { answer = rw same; lent = rw same }
-
-  pub copied_taken : (bytes : ℕ) (after : List ℕ) → v ≡ Accepted → bytes ≡ length s → after ≡ s ++ drop (length s) before → Copied s before (Ok bytes) after
-  unfolding tells tell on_accept laid
-  copied_taken bytes after t eb ea =
-      let same : laid_verdict s (length before) ≡ Accepted = sym verdict_is ∙ t in
-      record { answer = rw (same, eb); lent = rw same ea }
-
-pub ruleset copying = (copy_fits, copied_refused, copied_taken)
+pub ruleset copying = (copy_fits, laid_at)
 
 -- ---- the lists laid
 
@@ -102,9 +83,20 @@ laid_is h a b weights homes rows room filled before r after e p c =
 
 -- ---- the promise
 
-module _ (h : Network) (a b weights homes rows file : List ℕ) (v : Verdict) (e : v ≡ given_verdict h (length a) (length b) (length weights) (length homes) (length rows)) where
+module _ (h : Network) (a b weights homes rows file : List ℕ) where
   abbrev given : Lists
   given = lists a b weights homes rows
+
+  lists_same : lists_verdict 1 h (length a) (length b) (length weights) (length homes) (length rows) ≡ need_lists 1 h given
+  unfolding lists_verdict lists_rule need_lists
+  lists_same = refl
+
+  -- what is asked first decides where it refuses
+  pub given_first : (number place : ℕ) (rest : Verdict) → Refused number place ≡ given_verdict h (length a) (length b) (length weights) (length homes) (length rows)
+      → Refused number place ≡ and_then (refuse (need_counts h 0) 0) (and_then (need_lists 1 h given) rest)
+  unfolding given_verdict
+  given_first number place rest t =
+      sym (ap (λ (x : Verdict). and_then (refuse (need_counts h 0) 0) (and_then x rest)) (sym lists_same) ∙ then_assoc _ _ _ ∙ then_no _ _ number place (sym t))
 
   -- the entry's verdict: what is asked first, then the file and its room
   entry_verdict : write_entry.verdict (record { net = h; lists = given }) file
@@ -114,30 +106,16 @@ module _ (h : Network) (a b weights homes rows file : List ℕ) (v : Verdict) (e
       ap (λ (x : ℕ). and_then (refuse (need_counts h 0) 0) (and_then (need_lists 1 h given) (and_then (take_in (encode (set_with h given))) (refuse (need (leb x (length file)) 14 0) 0))))
       (sym (encode_long (set_with h given)))
 
-  lists_same : lists_verdict 1 h (length a) (length b) (length weights) (length homes) (length rows) ≡ need_lists 1 h given
-  unfolding lists_verdict lists_rule need_lists
-  lists_same = refl
-
-  pub write_refused : (number place : ℕ) → v ≡ Refused number place → Promise write_entry (record { net = h; lists = given }) file (answer.Refused number place) file
-  unfolding write_entry tells tell on_accept given_verdict
-  write_refused number place t =
-      let same : write_entry.verdict (record { net = h; lists = given }) file ≡ Refused number place =
-      entry_verdict ∙ ap (λ (x : Verdict). and_then (refuse (need_counts h 0) 0) (and_then x (laid_verdict (encode (set_with h given)) (length file)))) (sym lists_same)
-      ∙ then_assoc _ _ _ ∙ then_no _ _ number place (sym e ∙ t) in
-      record {
-        answer = sym (ap (λ (x : Verdict). tell x (file_length h ∷ [])) same);
-        lent = sym (ap (λ (x : Verdict). on_accept x (laid (encode (set_with h given)) file) file) same);
-      }
-
-  pub write_taken : (r : LengthAnswer) (after : List ℕ) → v ≡ Accepted → Copied (encode (set_with h given)) file r after → Promise write_entry (record { net = h; lists = given }) file r after
+  pub write_taken : (r : LengthAnswer) (after : List ℕ) → Accepted ≡ given_verdict h (length a) (length b) (length weights) (length homes) (length rows)
+      → Copied (encode (set_with h given)) file r after → Promise write_entry (record { net = h; lists = given }) file r after
   unfolding write_entry tells tell on_accept given_verdict set_with
   write_taken r after t c =
       let same : write_entry.verdict (record { net = h; lists = given }) file ≡ laid_verdict (encode (set_with h given)) (length file) =
       entry_verdict ∙ ap (λ (x : Verdict). and_then (refuse (need_counts h 0) 0) (and_then x (laid_verdict (encode (set_with h given)) (length file)))) (sym lists_same)
-      ∙ then_assoc _ _ _ ∙ then_ok _ _ (sym e ∙ t) in
+      ∙ then_assoc _ _ _ ∙ then_ok _ _ (sym t) in
       record {
         answer = c.answer ∙ ap₂ (λ (x : Verdict) (n : ℕ). tell x (n ∷ [])) (sym same) (encode_long (set_with h given));
         lent = c.lent ∙ sym (ap (λ (x : Verdict). on_accept x (laid (encode (set_with h given)) file) file) same);
       }
 
-pub ruleset promises = (given_taken, write_refused, write_taken)
+pub ruleset giving = (given_taken, given_first)

@@ -6,116 +6,72 @@
 #![tactic(auto)]
 
 ghost use Rattle.std.specs.Prelude.{◌≡◌, length};
-ghost use Rattle.rules.specs.Verdict.{Accepted};
+ghost use Rattle.rules.specs.Verdict.{Accepted, says};
 ghost use Rattle.rules.specs.Limits.{file_length};
 ghost use Rattle.rules.specs.File.{encode};
 ghost use Rattle.rules.specs.Entries.Entry.{Promise};
-ghost use Rattle.rules.specs.Entries.Lists.{lists};
 ghost use Rattle.rules.specs.Entries.Write.{set_with, write_entry};
-ghost use Rattle.writer.specs.Parts.{given_verdict, laid_verdict, Copied};
+ghost use Rattle.layout.specs.Held.{held};
+ghost use Rattle.writer.specs.Parts.{given_verdict, Copied};
 
 use intake::take_in;
 use layout::Lists;
-use needs::{need_lists, need_room, refuse, then};
-use rules::{LengthAnswer, Network, Verdict};
+use needs::{Lengths, need_lists, need_room};
+use rules::{Network, Refusal, Rule, Verdict};
 
 // What is asked before anything is laid: counts within their limits (3), lists that are long enough (1).
-fn given(net: Network, a: usize, b: usize, weights: usize, homes: usize, rows: usize) -> Verdict
-    ensures { result ≡ given_verdict net a b weights homes rows }
+#[tactic(auto, using(rules::proofs::Ground::Ruling::asking), unfolding(crate::specs::Parts::given_verdict))]
+fn given(net: Network, lists: Lengths) -> Verdict
+    ensures { says result ≡ given_verdict net lists.a lists.b lists.weights lists.homes lists.rows }
 {
-    let counts = refuse(recordrules::counts(net, 0), 0);
-    let long = need_lists(1, net, a, b, weights, homes, rows);
-    then(counts, long)
-}
-
-// A file that is laid taken in, and then the room for it.
-fn laid_verdict(laid: &[u8], room: usize) -> Verdict
-    ensures { result ≡ laid_verdict laid.now room }
-{
-    let taken = take_in(laid);
-    let long = need_room(laid.len(), room);
-    then(taken, long)
+    recordrules::counts(net)?;
+    need_lists(Rule::Length, net, lists)
 }
 
 // A file that is laid: copied where it is taken in and there is room.
-fn copied(laid: &[u8], file: &mut [u8]) -> LengthAnswer
+#[tactic(auto, using(rules::proofs::Entries::Answering::promising, rules::proofs::Ground::Ruling::asking, crate::proofs::Verdicts::copying), unfolding(rules::specs::Answers::tells, crate::specs::Parts::laid_verdict))]
+fn copied(laid: &[u8], file: &mut [u8]) -> Result<usize, Refusal>
     ensures { Copied laid.now file.old result file.new }
 {
-    let v = laid_verdict(laid, file.len());
-    match v {
-        Verdict::Accepted => LengthAnswer::Length(slices::store::copy(laid, file)),
-        Verdict::Refused { number, place } => LengthAnswer::Refused { number, place },
-    }
+    take_in(laid)?;
+    need_room(laid.len(), file.len())?;
+    Ok(slices::store::copy(laid, file))
 }
 
 // The lists laid in room that is as long as their file.
-fn laid(
-    net: Network,
-    a: &[u8],
-    b: &[u8],
-    weights: &[u16],
-    homes: &[u8],
-    rows: &[u16],
-    room: &mut [u8],
-    file: &mut [u8],
-) -> LengthAnswer
+fn laid(net: Network, lists: Lists, room: &mut [u8], file: &mut [u8]) -> Result<usize, Refusal>
     requires { length room.old ≡ file_length net }
-    ensures { Copied (encode (set_with net (lists a.now b.now weights.now homes.now rows.now))) file.old result file.new }
+    ensures { Copied (encode (set_with net (held lists.entry))) file.old result file.new }
 {
-    let lists = Lists {
-        a,
-        b,
-        weights,
-        homes,
-        rows,
-    };
     laying::set(room, net, lists);
     copied(room, file)
 }
 
 // The same in room of the writer's own: counts within their limits have no longer file.
-fn in_own_room(
-    net: Network,
-    a: &[u8],
-    b: &[u8],
-    weights: &[u16],
-    homes: &[u8],
-    rows: &[u16],
-    file: &mut [u8],
-) -> LengthAnswer
-    requires { given_verdict net (length a.now) (length b.now) (length weights.now) (length homes.now) (length rows.now) ≡ Accepted }
-    ensures { Copied (encode (set_with net (lists a.now b.now weights.now homes.now rows.now))) file.old result file.new }
+fn in_own_room(net: Network, lists: Lists, file: &mut [u8]) -> Result<usize, Refusal>
+    requires { given_verdict net (length lists.a.now) (length lists.b.now) (length lists.weights.now) (length lists.homes.now) (length lists.rows.now) ≡ Accepted }
+    ensures { Copied (encode (set_with net (held lists.entry))) file.old result file.new }
 {
     let mut room = rooms::file();
     let long = net.file_length();
-    laid(net, a, b, weights, homes, rows, &mut room[..long], file)
+    laid(net, lists, &mut room[..long], file)
 }
 
 // Writes the file of these lists into lent room.
 // Rules out: 14 for a set that breaks a rule too, which is told first `room_before_records`; 14 for a list that is too short,
 // which is 1 `short_list_is_fourteen`; a set stored that breaks 8 `what_breaks_a_rule_stored`; also
 // `judgement/every_home_judged_by_the_first`, `judgement/place_of_an_earlier_record`, `laying/every_row_at_the_first_place`.
-pub fn write(
-    net: Network,
-    a: &[u8],
-    b: &[u8],
-    weights: &[u16],
-    homes: &[u8],
-    rows: &[u16],
-    file: &mut [u8],
-) -> LengthAnswer
-    ensures { Promise write_entry (record { net = net; lists = lists a.now b.now weights.now homes.now rows.now }) file.old result file.new }
+#[tactic(auto, using(rules::proofs::Entries::Answering::promising, rules::proofs::Ground::Ruling::asking, crate::proofs::Verdicts::giving), unfolding(rules::specs::Entries::Write::write_entry, rules::specs::Answers::tells))]
+pub fn write(net: Network, lists: Lists, file: &mut [u8]) -> Result<usize, Refusal>
+    ensures { Promise write_entry (record { net = net; lists = held lists.entry }) file.old result file.new }
 {
-    let v = given(
-        net,
-        a.len(),
-        b.len(),
-        weights.len(),
-        homes.len(),
-        rows.len(),
-    );
-    match v {
-        Verdict::Accepted => in_own_room(net, a, b, weights, homes, rows, file),
-        Verdict::Refused { number, place } => LengthAnswer::Refused { number, place },
-    }
+    let lengths = Lengths {
+        a: lists.a.len(),
+        b: lists.b.len(),
+        weights: lists.weights.len(),
+        homes: lists.homes.len(),
+        rows: lists.rows.len(),
+    };
+    given(net, lengths)?;
+    in_own_room(net, lists, file)
 }

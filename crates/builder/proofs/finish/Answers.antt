@@ -5,10 +5,7 @@ pub put_set-requires-clause-links_in : goal.put_set-requires-clause-links_in
 put_set-requires-clause-links_in c = search links_in
 
 pub put_set-requires-clause-net_in_bounds : goal.put_set-requires-clause-net_in_bounds
-put_set-requires-clause-net_in_bounds c = search room_there
+put_set-requires-clause-net_in_bounds c = search (room_there, c.in_ok-need_room.ensures)
 
-pub returns-in-Accepted : goal.returns-in-Accepted
-returns-in-Accepted c = search room
-
-pub returns-in-Refused : goal.returns-in-Refused
-returns-in-Refused c = search no_room
+pub returns : goal.returns
+returns c = search (room, c.in_ok-need_room.ensures)

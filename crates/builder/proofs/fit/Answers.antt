@@ -5,8 +5,8 @@ use Rattle.builder.proofs.fit.Goals as goal
 pub first_fit-placed-requires-clause-le_n : goal.first_fit-placed-requires-clause-le_n
 first_fit-placed-requires-clause-le_n c = (search some_of, search few_of)
 
-pub unplaced_number-number-requires : goal.unplaced_number-number-requires
-unplaced_number-number-requires c = (search some_of, search few_of)
+pub unplaced-requires : goal.unplaced-requires
+unplaced-requires c = (search some_of, search few_of)
 
 pub returns-then-placed-net : goal.returns-then-placed-net
 returns-then-placed-net c = search not_placed

@@ -4,5 +4,5 @@ use Rattle.builder.proofs.fit_nodes.Goals as goal
 pub slice_bounds-fit-end : goal.slice_bounds-fit-end
 slice_bounds-fit-end c = search part_long
 
-pub fit-requires-clause-homes_value : goal.fit-requires-clause-homes_value
-fit-requires-clause-homes_value c = search none_placed
+pub fit-requires-clause-no_homes : goal.fit-requires-clause-no_homes
+fit-requires-clause-no_homes c = search none_placed

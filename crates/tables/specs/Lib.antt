@@ -1,2 +1,0 @@
--- The entry's verdict.
-pub mod Verdicts
