@@ -1,5 +1,4 @@
 -- Answers as words.
-use Rattle.std.specs.Prelude.{Ok}
 use mathlib.Core.Path.{◌≡◌, ◌∙◌}
 use mathlib.Core.List.{[], ◌∷◌}
 use Prim.Native.Nat.{ℕ, ◌+◌, ◌*◌, ◌≤◌, ◌<◌}
@@ -10,35 +9,24 @@ use Rattle.rules.specs.declared.Packet.{Packet}
 use Rattle.rules.specs.declared.Journey.{Journey}
 use Rattle.rules.specs.declared.Failure.TheVariants.{Nothing, Link, Node}
 use Rattle.rules.specs.declared.Kind.{Kind}
+use Rattle.rules.specs.declared.Kind.TheVariants as change
 use Rattle.rules.specs.declared.Outcome.{Outcome}
 use Rattle.rules.specs.declared.Outcome.TheVariants as ended
 use Rattle.rules.specs.declared.Step.{Step}
 use Rattle.rules.specs.declared.Step.TheVariants.{Delivered, Moved, Dropped}
 use Rattle.rules.specs.Forwarding.{letter}
-use Rattle.rules.specs.Answers.{ReadAnswer, LengthAnswer, StepAnswer, RunAnswer, header_values, read_tells, length_tells, outcome_value, packet_values, step_values, step_tells, journey_values, run_tells, tells}
-use Rattle.answerwords.specs.Words.{refused_word, pack, word_of, by_length, by_read, by_step, by_run, failure_of}
+use Rattle.rules.specs.Answers.{header_values, outcome_value, packet_values, step_values, journey_values}
+use Rattle.answerwords.specs.Words.{pack, by_length, by_read, by_step, by_run, failure_of}
 
 -- ---- words
 
-pub length_given : (a : LengthAnswer) (bytes : ℕ) → a ≡ Ok bytes → bytes ≡ word_of by_length (length_tells a)
-unfolding word_of tells pack
-length_given a bytes e = rw e (omega arith)
-
-pub length_refused : (a : LengthAnswer) (number place w : ℕ) → a ≡ long.Refused number place → w ≡ refused_word number place → w ≡ word_of by_length (length_tells a)
-unfolding word_of tells
-length_refused a number place w e d = d ∙ rw e
-
-pub header_is : (h : Network) → h.n + 256 * (h.m + 65536 * (h.k + 256 * h.wmax)) ≡ pack by_read (h.n ∷ h.m ∷ h.k ∷ h.wmax ∷ [])
+pub length_is : (bytes : ℕ) → bytes ≡ pack by_length (bytes ∷ [])
 unfolding pack
+length_is bytes = omega arith
+
+pub header_is : (h : Network) → h.n + 256 * (h.m + 65536 * (h.k + 256 * h.wmax)) ≡ pack by_read (header_values h)
+unfolding pack header_values
 header_is h = omega arith
-
-pub read_given : (a : ReadAnswer) (h : Network) (w : ℕ) → a ≡ Ok h → w ≡ pack by_read (h.n ∷ h.m ∷ h.k ∷ h.wmax ∷ []) → w ≡ word_of by_read (read_tells a)
-unfolding word_of tells header_values
-read_given a h w e d = d ∙ rw e
-
-pub read_refused : (a : ReadAnswer) (number place w : ℕ) → a ≡ read.Refused number place → w ≡ refused_word number place → w ≡ word_of by_read (read_tells a)
-unfolding word_of tells
-read_refused a number place w e d = d ∙ rw e
 
 -- ---- outcomes
 
@@ -60,41 +48,29 @@ pub packet_is : (p : Packet) → p.place + 256 * (p.destination + 256 * p.topolo
 unfolding pack
 packet_is p = omega arith
 
-pub stands_is : (outcome letter w : ℕ) (p : Packet) → w ≡ pack (256 ∷ 256 ∷ 256 ∷ []) (p.place ∷ p.destination ∷ p.topology ∷ []) → outcome + 256 * (letter + 256 * w) ≡ pack by_step (outcome ∷ letter ∷ p.place ∷ p.destination ∷ p.topology ∷ [])
+pub stands_is : (o : Outcome) (outcome letter w : ℕ) (p : Packet) → outcome ≡ outcome_value o → w ≡ pack (256 ∷ 256 ∷ 256 ∷ []) (p.place ∷ p.destination ∷ p.topology ∷ [])
+    → outcome + 256 * (letter + 256 * w) ≡ pack by_step (outcome_value o ∷ letter ∷ p.place ∷ p.destination ∷ p.topology ∷ [])
 unfolding pack
-stands_is outcome letter w p e = rw e
+stands_is o outcome letter w p d e = rw (← d, e)
 
-pub step_delivered : (s : Step) (p : Packet) (w : ℕ) → s ≡ Delivered p → w ≡ pack by_step (1 ∷ 45 ∷ p.place ∷ p.destination ∷ p.topology ∷ []) → w ≡ pack by_step (step_values s)
-unfolding step_values packet_values
-step_delivered s p w e d = d ∙ rw e
+pub step_delivered : (s : Step) (p : Packet) (l w : ℕ) → s ≡ Delivered p → l ≡ letter change.Unchanged → w ≡ pack by_step (outcome_value ended.Delivered ∷ l ∷ p.place ∷ p.destination ∷ p.topology ∷ [])
+    → w ≡ pack by_step (step_values s)
+unfolding step_values packet_values outcome_value letter
+step_delivered s p l w e g d = d ∙ rw (e, g)
 
-pub step_moved : (s : Step) (p : Packet) (k : Kind) (l w : ℕ) → s ≡ Moved p k → l ≡ letter k → w ≡ pack by_step (0 ∷ l ∷ p.place ∷ p.destination ∷ p.topology ∷ []) → w ≡ pack by_step (step_values s)
-unfolding step_values packet_values
+pub step_moved : (s : Step) (p : Packet) (k : Kind) (l w : ℕ) → s ≡ Moved p k → l ≡ letter k → w ≡ pack by_step (outcome_value ended.UnderWay ∷ l ∷ p.place ∷ p.destination ∷ p.topology ∷ [])
+    → w ≡ pack by_step (step_values s)
+unfolding step_values packet_values outcome_value
 step_moved s p k l w e g d = d ∙ rw (e, g)
 
-pub step_dropped : (s : Step) (p : Packet) (w : ℕ) → s ≡ Dropped p → w ≡ pack by_step (2 ∷ 45 ∷ p.place ∷ p.destination ∷ p.topology ∷ []) → w ≡ pack by_step (step_values s)
-unfolding step_values packet_values
-step_dropped s p w e d = d ∙ rw e
-
-pub step_taken : (a : StepAnswer) (s : Step) (w : ℕ) → a ≡ Ok s → w ≡ pack by_step (step_values s) → w ≡ word_of by_step (step_tells a)
-unfolding word_of tells
-step_taken a s w e d = d ∙ rw e
-
-pub step_refused : (a : StepAnswer) (number place w : ℕ) → a ≡ stepped.Refused number place → w ≡ refused_word number place → w ≡ word_of by_step (step_tells a)
-unfolding word_of tells
-step_refused a number place w e d = d ∙ rw e
+pub step_dropped : (s : Step) (p : Packet) (l w : ℕ) → s ≡ Dropped p → l ≡ letter change.Unchanged → w ≡ pack by_step (outcome_value ended.Dropped ∷ l ∷ p.place ∷ p.destination ∷ p.topology ∷ [])
+    → w ≡ pack by_step (step_values s)
+unfolding step_values packet_values outcome_value letter
+step_dropped s p l w e g d = d ∙ rw (e, g)
 
 pub journey_is : (j : Journey) (x y : ℕ) → x ≡ outcome_value j.outcome → y ≡ letter j.kind → x + 256 * (j.hops + 256 * (j.topology + 256 * y)) ≡ pack by_run (journey_values j)
 unfolding pack journey_values
 journey_is j x y e d = rw (← e, ← d) (omega arith)
-
-pub run_ended : (a : RunAnswer) (j : Journey) (w : ℕ) → a ≡ Ok j → w ≡ pack by_run (journey_values j) → w ≡ word_of by_run (run_tells a)
-unfolding word_of tells
-run_ended a j w e d = d ∙ rw e
-
-pub run_refused : (a : RunAnswer) (number place w : ℕ) → a ≡ ran.Refused number place → w ≡ refused_word number place → w ≡ word_of by_run (run_tells a)
-unfolding word_of tells
-run_refused a number place w e d = d ∙ rw e
 
 -- ---- what is down
 
@@ -118,4 +94,8 @@ pub down_no_node : (kind failed : ℕ) → kind ≡ 2 → 256 ≤ failed → Lin
 unfolding failure_of
 down_no_node kind failed e l = rw (ne_eqb kind 0 (λ z. omega arith), ne_eqb kind 1 (λ z. omega arith), eq-eqb kind 2 e, le-ltb failed 256 l)
 
-pub ruleset words = (length_given, length_refused, header_is, read_given, read_refused, outcome_under_way, outcome_delivered, outcome_dropped, packet_is, stands_is, step_delivered, step_moved, step_dropped, step_taken, step_refused, journey_is, run_ended, run_refused, down_nothing, down_link, down_unknown, down_node, down_no_node)
+pub ruleset outcomes = (outcome_under_way, outcome_delivered, outcome_dropped)
+
+pub ruleset steps = (step_delivered, step_moved, step_dropped)
+
+pub ruleset down = (down_nothing, down_link, down_unknown, down_node, down_no_node)

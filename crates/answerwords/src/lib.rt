@@ -4,50 +4,46 @@
 // place and every value are what the entry told (`EveryWord`, proved in proofs/ReadBack).
 #![tactic(auto)]
 
-ghost use Rattle.std.specs.Prelude.{◌≡◌, [], ◌∷◌, ◌<◌};
+ghost use Rattle.std.specs.Prelude.{◌≡◌, List, [], ◌∷◌, ℕ, ◌<◌};
 ghost use Rattle.rules.specs.Forwarding.{letter};
-ghost use Rattle.rules.specs.Answers.{read_tells, length_tells, outcome_value, step_values, step_tells, journey_values, run_tells};
+ghost use Rattle.rules.specs.Verdict.{number_of};
+ghost use Rattle.rules.specs.Answers.{tells, header_values, outcome_value, step_values, journey_values};
 ghost use Rattle.answerwords.specs.Words.{refused_word, pack, word_of, failure_of, by_length, by_read, by_step, by_run};
 
-use rules::{
-    Failure, Journey, Kind, LengthAnswer, Network, Outcome, Packet, ReadAnswer, RunAnswer, Step,
-    StepAnswer,
-};
+use rules::{Failure, Journey, Kind, Network, Outcome, Packet, Refusal, Step};
 use text::letter;
 
 // ---- answers as words
 
-fn refused_word(number: u8, place: usize) -> u64
-    ensures { result ≡ refused_word number place }
-{
-    let low = (place % 4294967296) as u64;
-    9223372036854775808 + (number as u64) * 4294967296 + low
+// What an accepted call gives, as one word: its values one after the other, each in as many bits as its range asks.
+pub trait Packed {
+    ghost values: { Self → List ℕ };
+    ghost ranges: { List ℕ };
+
+    fn packed(self) -> u64
+        ensures { result ≡ pack ranges (values self) };
 }
 
-// Rules out: a length with bit 63 set, which looks refused; a refusal with bit 63 clear `a_refusal_that_looks_accepted`; also
-// `the_number_over_the_place`.
-pub fn length_word(a: LengthAnswer) -> u64
-    ensures { result ≡ word_of by_length (length_tells a) }
-{
-    match a {
-        LengthAnswer::Length(bytes) => bytes as u64,
-        LengthAnswer::Refused { number, place } => refused_word(number, place),
+// How many bytes.
+impl Packed for usize {
+    ghost values = { λ bytes. bytes ∷ [] };
+    ghost ranges = { by_length };
+
+    #[tactic(auto, using(crate::proofs::Laws::length_is))]
+    fn packed(self) -> u64 {
+        self as u64
     }
 }
 
-fn header_word(h: Network) -> u64
-    ensures { result ≡ pack by_read (h.n ∷ h.m ∷ h.k ∷ h.wmax ∷ []) }
-{
-    (h.n as u64) + 256 * ((h.m as u64) + 65536 * ((h.k as u64) + 256 * (h.wmax as u64)))
-}
+// The header's counts.
+impl Packed for Network {
+    ghost values = { header_values };
+    ghost ranges = { by_read };
 
-// Rules out: n and k exchanged; m cut to 8 bits.
-pub fn read_word(a: ReadAnswer) -> u64
-    ensures { result ≡ word_of by_read (read_tells a) }
-{
-    match a {
-        ReadAnswer::Read(h) => header_word(h),
-        ReadAnswer::Refused { number, place } => refused_word(number, place),
+    #[tactic(auto, using(crate::proofs::Laws::header_is))]
+    fn packed(self) -> u64 {
+        (self.n as u64)
+            + 256 * ((self.m as u64) + 65536 * ((self.k as u64) + 256 * (self.wmax as u64)))
     }
 }
 
@@ -57,6 +53,52 @@ fn letter_of(kind: Kind) -> u64
     letter(kind) as u64
 }
 
+#[tactic(auto, using(crate::proofs::Laws::packet_is))]
+fn packet_word(p: Packet) -> u64
+    ensures { (result ≡ pack (256 ∷ 256 ∷ 256 ∷ []) (p.place ∷ p.destination ∷ p.topology ∷ [])) × (result < 16777216) }
+{
+    (p.place as u64) + 256 * ((p.destination as u64) + 256 * (p.topology as u64))
+}
+
+// How a packet stands, the letter of its change, and the packet.
+#[tactic(auto, using(crate::proofs::Laws::stands_is))]
+fn stands(outcome: Outcome, letter: u64, p: Packet) -> u64
+    requires { letter < 256 }
+    ensures { result ≡ pack by_step (outcome_value outcome ∷ letter ∷ p.place ∷ p.destination ∷ p.topology ∷ []) }
+{
+    outcome_of(outcome) + 256 * (letter + 256 * packet_word(p))
+}
+
+// One step.
+impl Packed for Step {
+    ghost values = { step_values };
+    ghost ranges = { by_step };
+
+    #[tactic(auto, using(crate::proofs::Laws::steps))]
+    fn packed(self) -> u64 {
+        match self {
+            Step::Delivered(p) => stands(Outcome::Delivered, letter_of(Kind::Unchanged), p),
+            Step::Moved(p, kind) => stands(Outcome::UnderWay, letter_of(kind), p),
+            Step::Dropped(p) => stands(Outcome::Dropped, letter_of(Kind::Unchanged), p),
+        }
+    }
+}
+
+// A run.
+impl Packed for Journey {
+    ghost values = { journey_values };
+    ghost ranges = { by_run };
+
+    #[tactic(auto, using(crate::proofs::Laws::journey_is))]
+    fn packed(self) -> u64 {
+        let o = self.outcome;
+        let k = self.kind;
+        outcome_of(o)
+            + 256 * ((self.hops as u64) + 256 * ((self.topology as u64) + 256 * letter_of(k)))
+    }
+}
+
+#[tactic(auto, using(crate::proofs::Laws::outcomes))]
 fn outcome_of(o: Outcome) -> u64
     ensures { (result ≡ outcome_value o) × (result < 256) }
 {
@@ -67,61 +109,31 @@ fn outcome_of(o: Outcome) -> u64
     }
 }
 
-fn packet_word(p: Packet) -> u64
-    ensures { (result ≡ pack (256 ∷ 256 ∷ 256 ∷ []) (p.place ∷ p.destination ∷ p.topology ∷ [])) × (result < 16777216) }
+fn refused_word(refusal: Refusal) -> u64
+    ensures { result ≡ refused_word (number_of refusal.rule) refusal.place }
 {
-    (p.place as u64) + 256 * ((p.destination as u64) + 256 * (p.topology as u64))
+    let number = refusal.rule.number();
+    let low = (refusal.place % 4294967296) as u64;
+    9223372036854775808 + (number as u64) * 4294967296 + low
 }
 
-// How a packet stands, the letter of its change, and the packet.
-fn stands(outcome: u64, letter: u64, p: Packet) -> u64
-    requires { (outcome < 256) × (letter < 256) }
-    ensures { result ≡ pack by_step (outcome ∷ letter ∷ p.place ∷ p.destination ∷ p.topology ∷ []) }
+// The word of an entry's answer.
+// Rules out: a refusal with bit 63 clear `a_refusal_that_looks_accepted`; values of an accepted call in another order; also
+// `the_number_over_the_place`.
+#[tactic(auto, unfolding(crate::specs::Words::word_of, rules::specs::Answers::tells))]
+pub fn word<T: Packed>(answer: Result<T, Refusal>) -> u64
+    ensures { result ≡ word_of T.ranges (tells T.values answer) }
 {
-    outcome + 256 * (letter + 256 * packet_word(p))
-}
-
-fn taken_word(s: Step) -> u64
-    ensures { result ≡ pack by_step (step_values s) }
-{
-    match s {
-        Step::Delivered(p) => stands(1, 45, p),
-        Step::Moved(p, kind) => stands(0, letter_of(kind), p),
-        Step::Dropped(p) => stands(2, 45, p),
-    }
-}
-
-// Rules out: place and destination exchanged; a kind by its number, which is a letter.
-pub fn step_word(a: StepAnswer) -> u64
-    ensures { result ≡ word_of by_step (step_tells a) }
-{
-    match a {
-        StepAnswer::Taken(s) => taken_word(s),
-        StepAnswer::Refused { number, place } => refused_word(number, place),
-    }
-}
-
-fn journey_word(j: Journey) -> u64
-    ensures { result ≡ pack by_run (journey_values j) }
-{
-    let o = j.outcome;
-    let k = j.kind;
-    outcome_of(o) + 256 * ((j.hops as u64) + 256 * ((j.topology as u64) + 256 * letter_of(k)))
-}
-
-// Rules out: hops and topology exchanged; dropped told as delivered.
-pub fn run_word(a: RunAnswer) -> u64
-    ensures { result ≡ word_of by_run (run_tells a) }
-{
-    match a {
-        RunAnswer::Ended(j) => journey_word(j),
-        RunAnswer::Refused { number, place } => refused_word(number, place),
+    match answer {
+        Ok(given) => given.packed(),
+        Err(refusal) => refused_word(refusal),
     }
 }
 
 // ---- what is down
 
 // Rules out: kind 3 taken for a link `a_link_by_another_kind`; node 256 taken for node 0 `a_node_by_its_low_byte`.
+#[tactic(auto, using(crate::proofs::Laws::down))]
 pub fn failure_of(kind: u8, failed: u16) -> Failure
     ensures { result ≡ failure_of kind failed }
 {

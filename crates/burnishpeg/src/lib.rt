@@ -13,7 +13,8 @@ ghost use Rattle.rules.specs.Entries.Run.{run_entry};
 ghost use Rattle.rules.specs.Entries.Report.{report_entry};
 ghost use Rattle.answerwords.specs.Words.{failure_of, packet_at, Answers, by_length, by_read, by_step, by_run};
 
-use answerwords::{failure_of, length_word, read_word, run_word, step_word};
+use answerwords::{failure_of, word};
+use layout::Lists;
 use rules::{Network, Packet};
 
 // ---- the entries
@@ -23,7 +24,7 @@ use rules::{Network, Packet};
 pub fn burnishpeg_build(graph: &[u8], cap: u8, out: &mut [u8]) -> u64
     ensures { Answers build_entry by_length (record { file = graph.now; cap = cap }) out.old result out.new }
 {
-    length_word(builder::build(graph, cap, out))
+    word(builder::build(graph, cap, out))
 }
 
 // Rules out: `tables` altered by a refused call; a refusal with bit 63 clear `answerwords/a_refusal_that_looks_accepted`; also
@@ -31,7 +32,7 @@ pub fn burnishpeg_build(graph: &[u8], cap: u8, out: &mut [u8]) -> u64
 pub fn burnishpeg_tables(file: &[u8], tables: &mut [u8]) -> u64
     ensures { Answers tables_entry by_length file.now tables.old result tables.new }
 {
-    length_word(tables::tables(file, tables))
+    word(tables::tables(file, tables))
 }
 
 // Rules out: 11 for a failed link, and kind 3 taken for one `answerwords/a_link_by_another_kind`; a refusal with bit 63 clear
@@ -54,7 +55,7 @@ pub fn burnishpeg_step(
         destination,
         topology,
     };
-    step_word(forwarding::step(file, tables, p, down))
+    word(forwarding::step(file, tables, p, down))
 }
 
 // Rules out: 11 for a failed link, and kind 3 taken for one `answerwords/a_link_by_another_kind`; a refusal with bit 63 clear
@@ -72,7 +73,7 @@ pub fn burnishpeg_run(
     ensures { Answers run_entry by_run (record { file = file.entry.now; source = source; destination = destination; failure = failure_of failure failed }) (record { tables = tables.entry.now; trail = trail.old }) result (record { tables = tables.exit.now; trail = trail.new }) }
 {
     let down = failure_of(failure, failed);
-    run_word(forwarding::run(file, source, destination, down, tables, trail))
+    word(forwarding::run(file, source, destination, down, tables, trail))
 }
 
 // Rules out: n and k exchanged in the answer; a refusal with bit 63 clear `answerwords/a_refusal_that_looks_accepted`; also
@@ -87,7 +88,7 @@ pub fn burnishpeg_read(
 ) -> u64
     ensures { Answers read_entry by_read file.now (lists a.old b.old weights.old homes.old rows.old) result (lists a.new b.new weights.new homes.new rows.new) }
 {
-    read_word(reader::read(file, a, b, weights, homes, rows))
+    word(reader::read(file, a, b, weights, homes, rows))
 }
 
 // Rules out: `out` altered by a refused call; a refusal with bit 63 clear `answerwords/a_refusal_that_looks_accepted`; also
@@ -107,7 +108,14 @@ pub fn burnishpeg_write(
     ensures { Answers write_entry by_length (record { net = record { n = n; m = m; k = k; wmax = wmax }; lists = lists a.now b.now weights.now homes.now rows.now }) out.old result out.new }
 {
     let net = Network::header(n, m, k, wmax);
-    length_word(writer::write(net, a, b, weights, homes, rows, out))
+    let lists = Lists {
+        a,
+        b,
+        weights,
+        homes,
+        rows,
+    };
+    word(writer::write(net, lists, out))
 }
 
 // ---- the report
@@ -118,5 +126,5 @@ pub fn burnishpeg_write(
 pub fn burnishpeg_report(file: &[u8], text: &mut [u8]) -> u64
     ensures { Answers report_entry by_length file.now text.old result text.new }
 {
-    length_word(report::report(file, text))
+    word(report::report(file, text))
 }
