@@ -7,6 +7,7 @@ mod argument; // argument.rt: the cap that is asked for
 
 use argument::{Asked, Cap};
 use console::{read_full, refused};
+use rooms::{FILE_AND_ONE, room};
 use rules::{LengthAnswer, Network};
 use std::io;
 use std::io::Write;
@@ -33,7 +34,7 @@ fn build_into<W: Write, E: Write>(
 }
 
 fn build<W: Write, E: Write>(out: &mut W, errors: &mut E, graph: &[u8], cap: u8) -> io::Result<()> {
-    let mut file = rooms::file_and_one();
+    let mut file = room::<FILE_AND_ONE>();
     build_into(out, errors, graph, cap, &mut file)
 }
 
@@ -57,7 +58,7 @@ fn plan<W: Write, E: Write>(out: &mut W, errors: &mut E, graph: &[u8], cap: Cap)
 }
 
 fn read_and_plan(rt: &HostRuntime, cap: Cap) -> io::Result<()> {
-    let mut graph = rooms::file_and_one();
+    let mut graph = room::<FILE_AND_ONE>();
     let long = read_full(&mut rt.stdin(), &mut graph)?;
     plan(&mut rt.stdout(), &mut rt.stderr(), &graph[..long], cap)
 }

@@ -64,7 +64,7 @@ module _ (s : List ℕ) where
   tables_verdict : (before : List ℕ) → (take_set s ≡ Accepted → tables_length (header_of s) ≤ length before) → and_then (take_set s) (need_room (tables_length (header_of s)) before) ≡ take_set s
   tables_verdict before enough = only_taken (tables_length (header_of s)) before enough
 
-  pub made_all : (before tables : List ℕ) (answer : LengthAnswer) → Room longest.tables before → Promise tables_entry s before answer tables → Made s answer tables
+  pub made_all : (before tables : List ℕ) (answer : LengthAnswer) → Room 34816 before → Promise tables_entry s before answer tables → Made s answer tables
   made_all before tables answer room P =
       record {
         before = before;
@@ -122,9 +122,9 @@ module _ (s : List ℕ) where
         let h : report_room net ≡ report_room (header_of s) = ap report_room R.header in
         wrote_copied old new r (omega (arith, fits R.accepted)) w
 
-    module _ (zeros own : List ℕ) (r : ℕ) (room : Room longest.report zeros) (w : Wrote zeros 0 (report_text (set_of s)) text_room r own) where
+    module _ (zeros own : List ℕ) (r : ℕ) (room : Room 23867 zeros) (w : Wrote zeros 0 (report_text (set_of s)) text_room r own) where
       whole : length (report_text (set_of s)) ≤ length zeros
-      whole = omega (arith, room.long, report_fits (set_of s) (set_accepted s R.accepted))
+      whole = omega (arith, room.long, figures.longest_report, report_fits (set_of s) (set_accepted s R.accepted))
 
       pub apart_inside : r ≤ length own
       apart_inside = omega (arith, whole, w.on, w.long)

@@ -18,6 +18,7 @@ ghost use Rattle.report.specs.Answer.{Made, Says, Printed, refusal_room};
 use anyroom::lay_text;
 use layout::header;
 use lines::write;
+use rooms::FEW_TABLES;
 use rules::{LengthAnswer, Network};
 use tables::tables;
 use text::{labelled, put};
@@ -29,7 +30,7 @@ fn apart(file: &[u8], net: Network, tables: &[u8], text: &mut [u8]) -> LengthAns
     requires { Ready file.now net tables.now }
     ensures { Copied (report_text (set_of file.now)) text.old result text.new }
 {
-    let mut made = rooms::report();
+    let mut made = rooms::room::<{ Network::LONGEST_REPORT }>();
     let long = write(file, net, tables, &mut made);
     lay_text(&made, long, text)
 }
@@ -64,7 +65,7 @@ fn by_few(file: &[u8], text: &mut [u8]) -> LengthAnswer
     requires { tables_length (header_of file.now) ≤ few_tables }
     ensures { Promise report_entry file.now text.old result text.new }
 {
-    let mut room = rooms::few_tables();
+    let mut room = rooms::room::<FEW_TABLES>();
     let made = tables(file, &mut room);
     report_by(made, file, &room, text)
 }
@@ -73,7 +74,7 @@ fn by_few(file: &[u8], text: &mut [u8]) -> LengthAnswer
 fn by_all(file: &[u8], text: &mut [u8]) -> LengthAnswer
     ensures { Promise report_entry file.now text.old result text.new }
 {
-    let mut room = rooms::tables();
+    let mut room = rooms::room::<{ Network::LONGEST_TABLES }>();
     let made = tables(file, &mut room);
     report_by(made, file, &room, text)
 }
@@ -85,7 +86,7 @@ pub fn report(file: &[u8], text: &mut [u8]) -> LengthAnswer
     ensures { Promise report_entry file.now text.old result text.new }
 {
     let net = header(file);
-    if net.tables_length() <= rooms::FEW_TABLES {
+    if net.tables_length() <= FEW_TABLES {
         return by_few(file, text);
     }
     by_all(file, text)

@@ -8,7 +8,8 @@ ghost use Rattle.rules.specs.Judgement.{judge};
 
 use console::{read_full, refused};
 use intake::take_set;
-use rules::{Failure, Journey, Packet, RunAnswer, Step, Verdict};
+use rooms::{FILE_AND_ONE, room};
+use rules::{Failure, Journey, Network, Packet, RunAnswer, Step, Verdict};
 use std::io;
 use std::io::Write;
 use tracing::question::{Asked, Down, Question};
@@ -103,8 +104,8 @@ fn run_into<W: Write>(
 fn run<W: Write>(out: &mut W, file: &[u8], q: Question, failure: Failure) -> io::Result<()>
     requires { judge file.now ≡ Accepted }
 {
-    let mut tables = rooms::tables();
-    let mut trail = rooms::trail();
+    let mut tables = room::<{ Network::LONGEST_TABLES }>();
+    let mut trail = room::<{ Network::LONGEST_TRAIL }>();
     run_into(out, file, q, failure, &mut tables, &mut trail)
 }
 
@@ -141,7 +142,7 @@ fn taken_in<W: Write>(out: &mut W, file: &[u8], q: Question) -> io::Result<()> {
 }
 
 fn read_and_answer(rt: &HostRuntime, q: Question) -> io::Result<()> {
-    let mut file = rooms::file_and_one();
+    let mut file = room::<FILE_AND_ONE>();
     let long = read_full(&mut rt.stdin(), &mut file)?;
     taken_in(&mut rt.stdout(), &file[..long], q)
 }

@@ -86,7 +86,7 @@ fn in_own_room(
     requires { given_verdict net (length a.now) (length b.now) (length weights.now) (length homes.now) (length rows.now) ≡ Accepted }
     ensures { Copied (encode (set_with net (lists a.now b.now weights.now homes.now rows.now))) file.old result file.new }
 {
-    let mut room = rooms::file();
+    let mut room = rooms::room::<{ Network::LONGEST_FILE }>();
     let long = net.file_length();
     laid(net, a, b, weights, homes, rows, &mut room[..long], file)
 }
