@@ -2,7 +2,7 @@
 // weights on the links that the homes leave normal. `put_set` promises the lent file with exactly those bytes at its front. It asks for
 // what the verdicts before it have settled: the links stand in the graph's file, their ends have homes, and the lent file has room. So
 // no byte of a row is tested again.
-#![tactic(auto)]
+#![tactic(auto, using(crate::proofs::Stored::fills), unfolding(rules::specs::Limits::file_length))]
 
 ghost use Rattle.std.specs.Prelude.{◌≡◌, ◌+◌, ◌*◌, ◌≤◌, ◌<◌, length};
 ghost use Rattle.rules.specs.Basics.{flat};
@@ -36,13 +36,11 @@ fn weight_in(graph: &[u8], homes: &[u8], i: u8, l: usize) -> u16
     let link = link_fields(graph, l);
     let home_a = homes[link.a as usize];
     let home_b = homes[link.b as usize];
-    if home_a == i {
-        return 0;
+    if home_a == i || home_b == i {
+        0
+    } else {
+        link.weight
     }
-    if home_b == i {
-        return 0;
-    }
-    link.weight
 }
 
 // The m weights of topology i's row.
