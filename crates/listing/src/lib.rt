@@ -1,7 +1,7 @@
 // The lists that a file holds, read into lent lists. `lists_into` promises, for any bytes and any counts, the fields of the records at
 // the front of each list; entries past the counts stay as they came. Each function here may be called where its lists are long
 // enough. What the fields may hold is the judgement's to say.
-#![tactic(auto)]
+#![tactic(auto, using(crate::proofs::Laying::rows_in_turn))]
 
 ghost use Rattle.std.specs.Prelude.{◌≡◌, ◌++◌, ℕ, ◌*◌, ◌<◌, ◌≤◌, length, drop};
 ghost use Rattle.rules.specs.Basics.{up_to, flat, laid};
