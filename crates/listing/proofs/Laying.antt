@@ -111,4 +111,4 @@ pub lists_are : (s : List ℕ) (h : Network) (a b w hs rs a' b' w' hs' rs' : Lis
 unfolding lists_of
 lists_are s h a b w hs rs a' b' w' hs' rs' nodes n ea eb ew eh er = rw (ea, eb, ew, eh, er, n)
 
-pub ruleset rows_in_turn = (row_starts, rows_fit, rows_more, rows_done, lists_are)
+pub ruleset rows_in_turn = (row_starts, rows_fit, rows_more, rows_done)
