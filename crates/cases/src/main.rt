@@ -34,7 +34,7 @@ mod sweep; // sweep.rt: every single failure of a set
 ghost use Rattle.std.specs.Prelude.{◌≤◌, length};
 
 use phrases::show;
-use rooms::file_and_one;
+use rooms::{FILE_AND_ONE, room};
 use std::fs::File;
 use std::io;
 use std::io::{Read, Write};
@@ -82,7 +82,7 @@ fn changed<R: Files, W: Write>(
 }
 
 fn case<R: Files, W: Write>(files: &R, out: &mut W, words: &[u8]) -> io::Result<()> {
-    let mut file = file_and_one();
+    let mut file = room::<FILE_AND_ONE>();
     changed(files, out, words, &mut file)
 }
 

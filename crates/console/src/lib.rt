@@ -1,4 +1,4 @@
-// What the programs share: a number among the arguments, the line of a refusal, and a file read into room that is lent. What a text means
+// What the programs share: a number among the arguments, and a file read into room that is lent. What a text means
 // as a number is promised whole. What the system gives as arguments and input, and what it does with what is written, no contract can say.
 #![tactic(auto)]
 
@@ -59,9 +59,4 @@ pub fn read_full<R: Read>(input: &mut R, room: &mut [u8]) -> io::Result<usize>
     let (long, read) = fill(input, room);
     read?;
     Ok(long)
-}
-
-// The line of a refusal.
-pub fn refused<W: Write>(out: &mut W, number: u8, place: usize) -> io::Result<()> {
-    writeln!(out, "refused {number} at {place}")
 }

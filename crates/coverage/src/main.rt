@@ -2,11 +2,11 @@
 #![tactic(auto)]
 
 use console::read_full;
-use rooms::file_and_one;
+use rooms::{FILE_AND_ONE, room};
 use std::io;
 
 fn main(rt: HostRuntime) -> io::Result<()> {
-    let mut file = file_and_one();
+    let mut file = room::<FILE_AND_ONE>();
     let long = read_full(&mut rt.stdin(), &mut file)?;
     printer::show(&mut rt.stdout(), &file[..long])
 }

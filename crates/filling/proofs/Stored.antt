@@ -17,15 +17,15 @@ use Rattle.rules.specs.Isolation.{class_by}
 use Rattle.rules.specs.Building.{on_normal}
 use Rattle.rules.proofs.Ground.Rows.{length_flat}
 use Rattle.slices.specs.Stores.{put}
-use Rattle.slices.proofs.Stores.{length_put, put_then, Storing, storing_more}
+use Rattle.slices.proofs.Stores.{length_put, put_then, Storing, storing_done, storing_more}
 use Rattle.layout.proofs.Places.{links_end, link_inside}
 use Rattle.layout.specs.Records.{link_record, home_record, home_of, row_head}
 use Rattle.filling.specs.Filled.{LinksIn, link_copy, weight_in, filled_bytes, filled_row, filled_file}
 
 -- ---- links
 
-pub link_room : (s d e : List ℕ) (x m l : ℕ) → Storing d e (link_place 0) (link_copy s) x m → link_place m ≤ length d → x < m → l ≡ x → link_place (l + 1) ≤ length e
-link_room s d e x m l S h g q = rw S.long (link_inside d l x m h g q)
+pub link_room : (s d e : List ℕ) (m l : ℕ) → Storing d e (link_place 0) (link_copy s) l m → link_place m ≤ length d → l < m → link_place (l + 1) ≤ length e
+link_room s d e m l S h g = rw S.long (link_inside d l l m h g refl)
 
 pub link_copied : (s d e e' : List ℕ) (l m a b w : ℕ) → Storing d e (link_place 0) (link_copy s) l m → l < m → a ≡ end_a s l → b ≡ end_b s l → w ≡ link_weight s l
     → e' ≡ put e (link_place l) (link_record a b w) → Storing d e' (link_place 0) (link_copy s) (l + 1) m
@@ -37,14 +37,14 @@ link_copied s d e e' l m a b w S g ea eb ew q = storing_more d e e' 8 (link_copy
 pub links_long : (s : List ℕ) (m n : ℕ) → LinksIn s m n → link_place m ≤ length s
 links_long s m n E = E.long
 
-pub place_inside : (s homes : List ℕ) (x m l : ℕ) → LinksIn s m (length homes) → x < m → l ≡ x → link_place (l + 1) ≤ length s
-place_inside s homes x m l E h e = link_inside s l x m E.long h e
+pub place_inside : (s homes : List ℕ) (m l : ℕ) → LinksIn s m (length homes) → l < m → link_place (l + 1) ≤ length s
+place_inside s homes m l E h = link_inside s l l m E.long h refl
 
-pub a_below : (s homes : List ℕ) (x m l : ℕ) → LinksIn s m (length homes) → x < m → l ≡ x → end_a s l < length homes
-a_below s homes x m l E h e = rw e (E.a_below x h)
+pub a_below : (s homes : List ℕ) (m l : ℕ) → LinksIn s m (length homes) → l < m → end_a s l < length homes
+a_below s homes m l E h = E.a_below l h
 
-pub b_below : (s homes : List ℕ) (x m l : ℕ) → LinksIn s m (length homes) → x < m → l ≡ x → end_b s l < length homes
-b_below s homes x m l E h e = rw e (E.b_below x h)
+pub b_below : (s homes : List ℕ) (m l : ℕ) → LinksIn s m (length homes) → l < m → end_b s l < length homes
+b_below s homes m l E h = E.b_below l h
 
 pub weight_a : (s homes : List ℕ) (i l a x : ℕ) → a ≡ end_a s l → x ≡ get_or homes a 0 → x ≡ i → 0 ≡ weight_in s homes i l
 unfolding weight_in on_normal class_by
@@ -67,14 +67,14 @@ pub weight_normal : (s homes : List ℕ) (i l a b w : ℕ) → a ≡ end_a s l �
 unfolding weight_in class_by on_normal
 weight_normal s homes i l a b w ea eb ne nf ew = ew ∙ rw (← ea, ne_eqb (get_or homes a 0) i ne, ← eb, ne_eqb (get_or homes b 0) i nf)
 
-pub weight_inside : (s homes d e : List ℕ) (base i x m l : ℕ) → Storing d e base (filled_bytes s homes i) x m → base + 2 * m ≤ length d → x < m → l ≡ x → base + 2 * l + 1 < length e
-weight_inside s homes d e base i x m l S h g q = let k = S.long in omega arith
+pub weight_inside : (s homes d e : List ℕ) (base i m l : ℕ) → Storing d e base (filled_bytes s homes i) l m → base + 2 * m ≤ length d → l < m → base + 2 * l + 1 < length e
+weight_inside s homes d e base i m l S h g = let k = S.long in omega arith
 
-pub weight_filled : (s homes d e e' : List ℕ) (base i x m l w : ℕ) → Storing d e base (filled_bytes s homes i) x m → x < m → l ≡ x → w ≡ weight_in s homes i l
-    → e' ≡ put e (base + 2 * l) (bytes2 w) → Storing d e' base (filled_bytes s homes i) (x + 1) m
+pub weight_filled : (s homes d e e' : List ℕ) (base i m l w : ℕ) → Storing d e base (filled_bytes s homes i) l m → l < m → w ≡ weight_in s homes i l
+    → e' ≡ put e (base + 2 * l) (bytes2 w) → Storing d e' base (filled_bytes s homes i) (l + 1) m
 unfolding filled_bytes bytes2
-weight_filled s homes d e e' base i x m l w S g el ew q =
-    storing_more d e e' base (filled_bytes s homes i) x m (base + 2 * l) 2 _ S g (λ y _. refl) (omega arith) (ap bytes2 (ew ∙ ap (weight_in s homes i) el)) q
+weight_filled s homes d e e' base i m l w S g ew q =
+    storing_more d e e' base (filled_bytes s homes i) l m (base + 2 * l) 2 _ S g (λ y _. refl) (omega arith) (ap bytes2 ew) q
 
 pub head_room : (d e : List ℕ) (h : Network) (at i : ℕ) → e ≡ put d at (row_head i) → at + row_length h ≤ length d → at + 3 + 2 * h.m ≤ length e
 unfolding row_length row_weights
@@ -122,3 +122,5 @@ file_filled s homes d e f g r h n p q en t u =
     let hr = put_then f g r (8 + 6 * h.m + 4 * 0) _ H R t' u (rw zero-mul (omega arith)) in
     let lhr = put_then e f r 8 _ L (H ++ R) q hr (omega arith) in
     put_then d e r 0 8 (header_bytes h) (L ++ (H ++ R)) p lhr refl
+
+pub ruleset fills = (link_inside, link_room, link_copied, links_long, place_inside, a_below, b_below, weight_a, weight_b, weight_normal, weight_inside, weight_filled, head_room, row_filled, rows_filled, row_room, links_room, file_filled, storing_done)

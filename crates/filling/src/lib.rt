@@ -2,7 +2,7 @@
 // weights on the links that the homes leave normal. `put_set` promises the lent file with exactly those bytes at its front. It asks for
 // what the verdicts before it have settled: the links stand in the graph's file, their ends have homes, and the lent file has room. So
 // no byte of a row is tested again.
-#![tactic(auto)]
+#![tactic(auto, using(crate::proofs::Stored::fills), unfolding(rules::specs::Limits::file_length))]
 
 ghost use Rattle.std.specs.Prelude.{◌≡◌, ◌+◌, ◌*◌, ◌≤◌, ◌<◌, length};
 ghost use Rattle.rules.specs.Basics.{flat};
@@ -15,70 +15,74 @@ use layout::{link_fields, record, row_place};
 use rules::Network;
 use slices::store::number_within;
 
-// The links, as in the graph.
-fn put_links(graph: &[u8], file: &mut [u8], m: u16)
-    requires { (link_place m ≤ length graph.now) × (link_place m ≤ length file.old) }
-    ensures { file.new ≡ put file.old (link_place 0) (flat (link_copy graph.now) m) }
-{
-    for l in 0..m as usize {
-        let link = link_fields(graph, l);
-        record::link_within(file, l, link.a, link.b, link.weight);
-    }
+// What a set is filled from: a graph's file, the homes of its nodes, and the counts of the set. Its links stand in the graph's file, and
+// their ends have homes.
+#[derive(Clone, Copy)]
+struct Source<'a> {
+    graph: &'a [u8],
+    homes: &'a [u8],
+    net: Network,
+    ghost links_in: { LinksIn graph.now net.m (length homes.now) },
 }
 
-// Link l's weight in topology i: topology 0's where neither end is isolated.
-fn weight_in(graph: &[u8], homes: &[u8], i: u8, l: usize) -> u16
-    requires l_bound { l < 65536 }
-    requires l_in_bounds { link_place (l + 1) ≤ length graph.now }
-    requires l_in_bounds_2 { (end_a graph.now l < length homes.now) × (end_b graph.now l < length homes.now) }
-    ensures { result ≡ weight_in graph.now homes.now i l }
-{
-    let link = link_fields(graph, l);
-    let home_a = homes[link.a as usize];
-    let home_b = homes[link.b as usize];
-    if home_a == i {
-        return 0;
+impl Source<'_> {
+    // The links, as in the graph.
+    fn put_links(&self, file: &mut [u8])
+        requires { link_place self.now.net.m ≤ length file.old }
+        ensures { file.new ≡ put file.old (link_place 0) (flat (link_copy self.now.graph.now) self.now.net.m) }
+    {
+        for l in 0..self.net.m {
+            let link = link_fields(self.graph, l as usize);
+            record::link_within(file, l as usize, link.a, link.b, link.weight);
+        }
     }
-    if home_b == i {
-        return 0;
+
+    // Link l's weight in topology i: topology 0's where neither end is isolated.
+    fn weight(&self, i: u8, l: u16) -> u16
+        requires { l < self.now.net.m }
+        ensures { result ≡ weight_in self.now.graph.now self.now.homes.now i l }
+    {
+        let link = link_fields(self.graph, l as usize);
+        let home_a = self.homes[link.a as usize];
+        let home_b = self.homes[link.b as usize];
+        if home_a == i || home_b == i {
+            0
+        } else {
+            link.weight
+        }
     }
-    link.weight
-}
 
-// The m weights of topology i's row.
-fn put_weights(graph: &[u8], homes: &[u8], file: &mut [u8], m: u16, at: usize, i: u8)
-    requires at_bound { at < 1073741824 }
-    requires links_in { LinksIn graph.now m (length homes.now) }
-    requires m_in_bounds { at + 2 * m ≤ length file.old }
-    ensures { file.new ≡ put file.old at (flat (filled_bytes graph.now homes.now i) m) }
-{
-    for l in 0..m as usize {
-        let w = weight_in(graph, homes, i, l);
-        number_within(file, at + Network::WEIGHT * l, w);
+    // The weights of topology i's row.
+    fn put_weights(&self, file: &mut [u8], at: usize, i: u8)
+        requires at_bound { at < 1073741824 }
+        requires room { at + 2 * self.now.net.m ≤ length file.old }
+        ensures { file.new ≡ put file.old at (flat (filled_bytes self.now.graph.now self.now.homes.now i) self.now.net.m) }
+    {
+        for l in 0..self.net.m {
+            number_within(file, at + Network::WEIGHT * (l as usize), self.weight(i, l));
+        }
     }
-}
 
-// The row of topology j + 1.
-fn put_row(graph: &[u8], homes: &[u8], file: &mut [u8], net: Network, at: usize, j: u8)
-    requires at_bound { at < 536870912 }
-    requires j_bound { j < 255 }
-    requires links_in { LinksIn graph.now net.m (length homes.now) }
-    requires net_in_bounds { at + row_length net ≤ length file.old }
-    ensures { file.new ≡ put file.old at (filled_row graph.now homes.now net.m j) }
-{
-    let i = j + 1;
-    record::row_head(file, at, i);
-    put_weights(graph, homes, file, net.m, at + Network::ROW_HEAD, i);
-}
+    // The row of topology j + 1.
+    fn put_row(&self, file: &mut [u8], at: usize, j: u8)
+        requires at_bound { at < 536870912 }
+        requires j_bound { j < 255 }
+        requires room { at + row_length self.now.net ≤ length file.old }
+        ensures { file.new ≡ put file.old at (filled_row self.now.graph.now self.now.homes.now self.now.net.m j) }
+    {
+        let i = j + 1;
+        record::row_head(file, at, i);
+        self.put_weights(file, at + Network::ROW_HEAD, i);
+    }
 
-fn put_rows(graph: &[u8], homes: &[u8], file: &mut [u8], net: Network, k: u8)
-    requires links_in { LinksIn graph.now net.m (length homes.now) }
-    requires k_in_bounds { row_place net k ≤ length file.old }
-    ensures { file.new ≡ put file.old (row_place net 0) (flat (filled_row graph.now homes.now net.m) k) }
-{
-    for j in 0..k {
-        let at = row_place(net, j as usize);
-        put_row(graph, homes, file, net, at, j);
+    fn put_rows(&self, file: &mut [u8])
+        requires { file_length self.now.net ≤ length file.old }
+        ensures { file.new ≡ put file.old (row_place self.now.net 0) (flat (filled_row self.now.graph.now self.now.homes.now self.now.net.m) self.now.net.k) }
+    {
+        for j in 0..self.net.k {
+            let at = row_place(self.net, j as usize);
+            self.put_row(file, at, j);
+        }
     }
 }
 
@@ -90,8 +94,9 @@ pub fn put_set(graph: &[u8], homes: &[u8], file: &mut [u8], net: Network)
     requires net_in_bounds { file_length net ≤ length file.old }
     ensures { file.new ≡ put file.old 0 (filled_file graph.now homes.now net) }
 {
+    let source = Source { graph, homes, net };
     record::header(file, net);
-    put_links(graph, file, net.m);
+    source.put_links(file);
     record::homes(file, net, homes, net.home_records());
-    put_rows(graph, homes, file, net, net.k);
+    source.put_rows(file);
 }

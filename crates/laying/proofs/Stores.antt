@@ -93,4 +93,4 @@ pub row_start_is : (h : Network) (j w : ℕ) → w ≡ row_weights h → j * w �
 unfolding row_start
 row_start_is h j w e = rw e
 
-pub ruleset lays = (link_laid, row_laid, storing_none, storing_done, links_more, weights_more, rows_more, graph_laid, backup_laid, set_laid)
+pub ruleset lays = (start_fits, start_near, row_start_is, link_laid, row_laid, storing_done, links_more, weights_more, rows_more, graph_laid, backup_laid, set_laid)

@@ -1,6 +1,6 @@
 // The lists of a set, laid as the bytes of its file. `set` promises the lent room with exactly the bytes of the set that the header
 // and the lists are, from its first byte on. A byte past the room's end is stored nowhere, so nothing here asks for room.
-#![tactic(auto)]
+#![tactic(auto, using(crate::proofs::Stores::lays))]
 
 ghost use Rattle.std.specs.Prelude.{◌≡◌, ◌++◌, ◌<◌};
 ghost use Rattle.rules.specs.Basics.{flat};

@@ -62,4 +62,4 @@ unfolding home_place home_of home_record
 homes_more h homes d e e' v n at t s g p et q =
     storing_more d e e' _ (home_of homes) v n at 4 _ s g (λ i _. refl) (omega arith) (rw et) q
 
-pub ruleset records = (header_put, link_put, whole_put, home_put, head_put, storing_none, storing_done, homes_more)
+pub ruleset records = (header_put, link_put, whole_put, home_put, head_put, storing_done, homes_more)

@@ -1,7 +1,7 @@
 // The layout of the house file: where its records stand, which follows from the counts of its header; their fields, read at those
 // places, one by one from any bytes, or a link's together where its record is there; and the records, stored there (`record`).
 // Places, fields and records are promised by the definitions of 01's 'The file'. What a field may hold is the judgement's to say.
-#![tactic(auto)]
+#![tactic(auto, using(crate::proofs::Places::places, crate::proofs::Records::fields_there), unfolding(rules::specs::Limits::link_place, rules::specs::Limits::home_place, rules::specs::File::header_of, rules::specs::File::end_a, rules::specs::File::end_b, rules::specs::File::link_weight, rules::specs::File::home_topology, rules::specs::File::row_weight))]
 
 pub mod record; // record.rt: the records as bytes
 
@@ -100,7 +100,6 @@ pub fn link_weight(file: &[u8], l: usize) -> u16
 
 // All of link l's record, where the file reaches that far.
 // Rules out: the ends exchanged `ends_exchanged`; the weight of the link after.
-#[tactic(auto, unfolding(rules::specs::Limits::link_place))]
 pub fn link_fields(file: &[u8], l: usize) -> LinkFields
     requires l_bound { l < 16777216 }
     requires l_in_bounds { link_place (l + 1) ≤ length file.now }

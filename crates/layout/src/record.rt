@@ -1,5 +1,7 @@
 // The records of a file, stored at a place of a lent file. A byte past the file's end is stored nowhere, so no store asks for room but
 // `link_within`: that there is room is for a verdict to say.
+#![tactic(auto, using(crate::proofs::Records::records), unfolding(rules::specs::Limits::link_place))]
+
 ghost use Rattle.std.specs.Prelude.{◌≡◌, ◌+◌, ◌≤◌, ◌<◌, length};
 ghost use Rattle.rules.specs.Basics.{flat};
 ghost use Rattle.rules.specs.Limits.{link_place, home_place};
@@ -35,7 +37,6 @@ pub fn link(file: &mut [u8], at: usize, a: u8, b: u8, w: u16)
 
 // Link l's record at its own place, where all of it is before the end.
 // Rules out: the weight with its lower byte first `slices/lower_byte_first`; end b before end a.
-#[tactic(auto, using(crate::proofs::Records::whole_put), unfolding(rules::specs::Limits::link_place))]
 pub fn link_within(file: &mut [u8], l: usize, a: u8, b: u8, w: u16)
     requires l_bound { l < 16777216 }
     requires l_in_bounds { link_place (l + 1) ≤ length file.old }

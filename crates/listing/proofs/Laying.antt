@@ -102,8 +102,6 @@ module _ (s : List ℕ) (h : Network) where
 pub rows_done : (s : List ℕ) (h : Network) (d e : List ℕ) (k j : ℕ) → LayingRows s h d e k j → k ≤ j → e ≡ laid (flat (row_of s h) k) d
 rows_done s h d e k j w l = let same : j ≡ k = omega arith in w.entries ∙ ap (λ (n : ℕ). laid (flat (row_of s h) n) d) same
 
-pub ruleset rows_in_turn = (rows_none, row_starts, rows_fit, rows_more, rows_done)
-
 -- ---- all lists
 
 pub lists_are : (s : List ℕ) (h : Network) (a b w hs rs a' b' w' hs' rs' : List ℕ) (nodes : ℕ) → nodes ≡ home_records h
@@ -112,3 +110,5 @@ pub lists_are : (s : List ℕ) (h : Network) (a b w hs rs a' b' w' hs' rs' : Lis
     → lists a' b' w' hs' rs' ≡ lists_of s h (lists a b w hs rs)
 unfolding lists_of
 lists_are s h a b w hs rs a' b' w' hs' rs' nodes n ea eb ew eh er = rw (ea, eb, ew, eh, er, n)
+
+pub ruleset rows_in_turn = (row_starts, rows_fit, rows_more, rows_done)

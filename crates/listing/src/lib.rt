@@ -1,7 +1,7 @@
 // The lists that a file holds, read into lent lists. `lists_into` promises, for any bytes and any counts, the fields of the records at
 // the front of each list; entries past the counts stay as they came. Each function here may be called where its lists are long
 // enough. What the fields may hold is the judgement's to say.
-#![tactic(auto)]
+#![tactic(auto, using(crate::proofs::Laying::rows_in_turn))]
 
 ghost use Rattle.std.specs.Prelude.{◌≡◌, ◌++◌, ℕ, ◌*◌, ◌<◌, ◌≤◌, length, drop};
 ghost use Rattle.rules.specs.Basics.{up_to, flat, laid};
@@ -25,42 +25,6 @@ pub fn read_into<T: Copy, F: Fn(usize) -> T>(read: F, count: usize, out: &mut [T
     for (i, x) in out[..count].iter_mut().enumerate() {
         *x = read(i);
     }
-}
-
-// The first m links' ends a.
-// Rules out: the ends b; an entry past the first m altered.
-pub fn ends_a_into(file: &[u8], m: usize, out: &mut [u8])
-    requires { (m ≤ length out.old) × (m < 1048576) }
-    ensures { out.new ≡ laid (up_to (end_a file.now) m) out.old }
-{
-    read_into(|l| end_a(file, l), m, out);
-}
-
-// Their ends b.
-// Rules out: the ends a; the links from the second on.
-pub fn ends_b_into(file: &[u8], m: usize, out: &mut [u8])
-    requires { (m ≤ length out.old) × (m < 1048576) }
-    ensures { out.new ≡ laid (up_to (end_b file.now) m) out.old }
-{
-    read_into(|l| end_b(file, l), m, out);
-}
-
-// Their weights in topology 0.
-// Rules out: a backup row's weights; a weight with its bytes exchanged.
-pub fn weights_into(file: &[u8], m: usize, out: &mut [u16])
-    requires { (m ≤ length out.old) × (m < 1048576) }
-    ensures { out.new ≡ laid (up_to (link_weight file.now) m) out.old }
-{
-    read_into(|l| link_weight(file, l), m, out);
-}
-
-// The first nodes' homes.
-// Rules out: the nodes' numbers; an entry past the count altered.
-pub fn homes_into(file: &[u8], net: Network, count: usize, out: &mut [u8])
-    requires { (count ≤ length out.old) × (count < 1048576) }
-    ensures { out.new ≡ laid (up_to (home_topology file.now net) count) out.old }
-{
-    read_into(|v| home_topology(file, net, v), count, out);
 }
 
 // The weights of the row of topology j + 1.
@@ -101,9 +65,9 @@ pub fn lists_into(
     ensures { lists a.new b.new weights.new homes.new rows.new ≡ lists_of file.now net (lists a.old b.old weights.old homes.old rows.old) }
 {
     let m = net.m as usize;
-    ends_a_into(file, m, a);
-    ends_b_into(file, m, b);
-    weights_into(file, m, weights);
-    homes_into(file, net, net.home_records(), homes);
+    read_into(|l| end_a(file, l), m, a);
+    read_into(|l| end_b(file, l), m, b);
+    read_into(|l| link_weight(file, l), m, weights);
+    read_into(|v| home_topology(file, net, v), net.home_records(), homes);
     rows_into(file, net, rows);
 }

@@ -5,8 +5,9 @@
 
 mod argument; // argument.rt: the cap that is asked for
 
-use console::{read_full, refused};
-use rules::{LengthAnswer, Network};
+use console::read_full;
+use rooms::{FILE_AND_ONE, room};
+use rules::Network;
 use std::io;
 use std::io::Write;
 
@@ -18,8 +19,8 @@ fn build_into<W: Write, E: Write>(
     file: &mut [u8],
 ) -> io::Result<()> {
     match builder::build(graph, cap, file) {
-        LengthAnswer::Length(long) => out.write_all(file.get(..long).unwrap_or(&[])),
-        LengthAnswer::Refused { number, place } => refused(errors, number, place),
+        Ok(long) => out.write_all(file.get(..long).unwrap_or(&[])),
+        Err(refusal) => writeln!(errors, "{refusal}"),
     }
 }
 
@@ -37,13 +38,13 @@ fn plan<W: Write, E: Write>(
     graph: &[u8],
     cap: Option<u8>,
 ) -> io::Result<()> {
-    let mut file = rooms::file_and_one();
+    let mut file = room::<FILE_AND_ONE>();
     let cap = cap.unwrap_or_else(|| own_cap(graph));
     build_into(out, errors, graph, cap, &mut file)
 }
 
 fn read_and_plan(rt: &HostRuntime, cap: Option<u8>) -> io::Result<()> {
-    let mut graph = rooms::file_and_one();
+    let mut graph = room::<FILE_AND_ONE>();
     let long = read_full(&mut rt.stdin(), &mut graph)?;
     plan(&mut rt.stdout(), &mut rt.stderr(), &graph[..long], cap)
 }

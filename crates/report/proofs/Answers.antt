@@ -1,5 +1,5 @@
 -- From the answer of the entry `tables` to that of `report`: the room for the longest tables is always enough, so both refuse the same files.
-use Rattle.std.specs.Prelude.{Ok}
+use Rattle.std.specs.Prelude.{Ok, Err}
 use mathlib.Core.Path.{◌≡◌, refl, sym, ap, ap₂, subst, ◌∙◌}
 use mathlib.Core.List.{List, [], ◌∷◌, ◌++◌}
 use Prim.Native.Nat.{ℕ, ◌+◌, ◌≤◌}
@@ -7,7 +7,8 @@ use native.Mathlib.Nat.{zero-add}
 use native.Mathlib.Omega.{arith}
 use lib.ListN.{length, take}
 use Rattle.rules.specs.declared.Network.{Network}
-use Rattle.rules.specs.Verdict.{Verdict, Accepted, Refused}
+use Rattle.rules.specs.declared.Refusal.{Refusal}
+use Rattle.rules.specs.Verdict.{Verdict, Accepted, Refused, number_of}
 use Rattle.rules.specs.Basics.{laid}
 use Rattle.rules.specs.Limits.{tables_length, report_room, longest}
 use Rattle.rules.specs.File.{header_of, set_of}
@@ -29,7 +30,7 @@ use Rattle.rules.proofs.Entries.Report.{report_fits}
 use Rattle.rules.proofs.Report.TextLength.{report_fits as text_fits}
 use Rattle.rules.proofs.Entries.Values.{longest_tables}
 use Rattle.rules.proofs.Refusals.Needs.{room_ok, room_long}
-use Rattle.rooms.specs.Rooms.{few_tables, Room}
+use Rattle.rooms.specs.Rooms.{Room}
 use Rattle.rooms.proofs.Longest as figures
 use Rattle.anyroom.specs.Laying.{Copied}
 use Rattle.text.specs.declared.Pen.{Pen}
@@ -65,21 +66,18 @@ module _ (s : List ℕ) where
   tables_verdict : (before : List ℕ) → (take_set s ≡ Accepted → tables_length (header_of s) ≤ length before) → and_then (take_set s) (need_room (tables_length (header_of s)) before) ≡ take_set s
   tables_verdict before enough = only_taken (tables_length (header_of s)) before enough
 
-  pub made_all : (before tables : List ℕ) (answer : LengthAnswer) → Room longest.tables before → Promise tables_entry s before answer tables → Made s answer tables
-  made_all before tables answer room P =
-      record {
-        before = before;
-        enough = λ c.
-            let w : WithinLimits (header_of s) = rw (net_held s) at (set_accepted s c).rules.limits in
-            omega (arith, room.long, longest_tables (header_of s) w, figures.longest_tables);
-        kept = P;
-      }
+  pub made_in : (n : ℕ) (before tables : List ℕ) (answer : LengthAnswer) → Room n before → (take_set s ≡ Accepted → tables_length (header_of s) ≤ n)
+      → Promise tables_entry s before answer tables → Made s answer tables
+  made_in n before tables answer room fit P = record { before = before; enough = λ c. let f = fit c in omega (arith, room.long); kept = P }
 
-  pub made_few : (before tables : List ℕ) (answer : LengthAnswer) → Room few_tables before → tables_length (header_of s) ≤ few_tables → Promise tables_entry s before answer tables → Made s answer tables
-  made_few before tables answer room few P = record { before = before; enough = λ c. omega (arith, room.long); kept = P }
+  -- the longest tables are room for all
+  pub all_enough : take_set s ≡ Accepted → tables_length (header_of s) ≤ 34816
+  all_enough c =
+      let w : WithinLimits (header_of s) = rw (net_held s) at (set_accepted s c).rules.limits in
+      omega (arith, longest_tables (header_of s) w, figures.longest_tables)
 
-  pub few_enough : (h : Network) (r : ℕ) → r ≡ tables_length h → h ≡ header_of s → r ≤ few_tables → tables_length (header_of s) ≤ few_tables
-  few_enough h r e d l = subst (λ (g : Network). tables_length g ≤ few_tables) d (omega arith)
+  pub few_enough : (h : Network) (r : ℕ) → r ≡ tables_length h → h ≡ header_of s → r ≤ 4096 → take_set s ≡ Accepted → tables_length (header_of s) ≤ 4096
+  few_enough h r e d l c = subst (λ (g : Network). tables_length g ≤ 4096) d (omega arith)
 
   -- room for the longest report is enough for every file
   pub report_verdict : (old : List ℕ) → longest.report ≡ length old → and_then (take_set s) (need_room (length (report_text (set_of s))) old) ≡ take_set s
@@ -102,10 +100,10 @@ module _ (s : List ℕ) where
         most = rw (h, ← net_held s) A.nodes.1;
       }
 
-  pub made_taken : (answer : LengthAnswer) (tables : List ℕ) (bytes : ℕ) → Made s answer tables → answer ≡ long.Length bytes → take_set s ≡ Accepted
+  pub made_taken : (answer : LengthAnswer) (tables : List ℕ) (bytes : ℕ) → Made s answer tables → answer ≡ Ok bytes → take_set s ≡ Accepted
   made_taken answer tables bytes M e = (made_ready answer tables bytes (header_of s) M e refl).accepted
 
-  pub made_own : (answer : LengthAnswer) (tables : List ℕ) (bytes : ℕ) → Made s answer tables → answer ≡ long.Length bytes → laid (table_bytes (set_of s)) tables ≡ tables
+  pub made_own : (answer : LengthAnswer) (tables : List ℕ) (bytes : ℕ) → Made s answer tables → answer ≡ Ok bytes → laid (table_bytes (set_of s)) tables ≡ tables
   made_own answer tables bytes M e = ready_own s tables (header_of s) (made_ready answer tables bytes (header_of s) M e refl)
 
   -- ---- its text into lent room
@@ -129,9 +127,9 @@ module _ (s : List ℕ) where
         let h : report_room net ≡ report_room (header_of s) = ap report_room g in
         wrote_copied old new r (omega (arith, fits c)) w
 
-    module _ (zeros own : List ℕ) (r : ℕ) (room : Room longest.report zeros) (w : Wrote zeros 0 (report_text (set_of s)) text_room r own) where
+    module _ (zeros own : List ℕ) (r : ℕ) (room : Room 23867 zeros) (w : Wrote zeros 0 (report_text (set_of s)) text_room r own) where
       whole : length (report_text (set_of s)) ≤ length zeros
-      whole = omega (arith, room.long, report_fits (set_of s) (set_accepted s c))
+      whole = omega (arith, room.long, figures.longest_report, report_fits (set_of s) (set_accepted s c))
 
       pub apart_inside : r ≤ length own
       apart_inside = omega (arith, whole, w.on, w.long)
@@ -153,11 +151,12 @@ module _ (s : List ℕ) where
 
   -- ---- a refused file
 
-  pub made_refused : (answer : LengthAnswer) (tables old : List ℕ) (number place : ℕ) → Made s answer tables → answer ≡ long.Refused number place → Promise report_entry s old (long.Refused number place) old
+  pub made_refused : (answer : LengthAnswer) (tables old : List ℕ) (r : Refusal) → Made s answer tables → answer ≡ Err r → Promise report_entry s old (Err r) old
   unfolding tables_entry report_entry tells tell on_accept
-  made_refused answer tables old number place M e =
-      let t : and_then (take_set s) (need_room (tables_length (header_of s)) M.before) ≡ Refused number place = tells_refused _ (tables_length (header_of s) ∷ []) number place (sym (ap length_tells e) ∙ M.kept.answer) in
-      let v = then_no (take_set s) (need_room (length (report_text (set_of s))) old) number place (sym (tables_verdict M.before M.enough) ∙ t) in
+  made_refused answer tables old r M e =
+      let t : and_then (take_set s) (need_room (tables_length (header_of s)) M.before) ≡ Refused (number_of r.rule) r.place =
+      tells_refused _ (tables_length (header_of s) ∷ []) (number_of r.rule) r.place (sym (ap length_tells e) ∙ M.kept.answer) in
+      let v = then_no (take_set s) (need_room (length (report_text (set_of s))) old) (number_of r.rule) r.place (sym (tables_verdict M.before M.enough) ∙ t) in
       record { answer = rw v; lent = rw v }
 
 -- ---- what the program prints
@@ -201,7 +200,9 @@ module _ (s : List ℕ) where
       let a : accepted (r ∷ []) ≡ accepted (length (report_text (set_of s)) ∷ []) = sym (ap length_tells e) ∙ P.answer ∙ ap (λ (x : Verdict). tell x (length (report_text (set_of s)) ∷ [])) v in
       let z : r ≡ length (report_text (set_of s)) = cc in
       record { is = m ∙ P.lent ∙ rw (v, c); long = z ∙ rw c; fits = omega (arith, ap length m, report_fits (set_of s) (set_accepted s c)) }
-  printed_of old mid new answer r P (line number place e w) l =
+  printed_of old mid new answer r P (line refusal e w) l =
+      let number : ℕ = number_of refusal.rule in
+      let place : ℕ = refusal.place in
       let o = l ∙ same_room old mid answer P in
       let v : and_then (take_set s) (need_room (length (report_text (set_of s))) old) ≡ Refused number place = tells_refused _ (length (report_text (set_of s)) ∷ []) number place (sym (ap length_tells e) ∙ P.answer) in
       let c : take_set s ≡ Refused number place = sym (report_verdict s old o) ∙ v in
@@ -216,8 +217,9 @@ module _ (s : List ℕ) where
 pub says_report : (answer : LengthAnswer) (old : List ℕ) (bytes : ℕ) → answer ≡ Ok bytes → Says answer old bytes old
 says_report answer old bytes e = it e refl
 
-pub says_refusal : (answer : LengthAnswer) (old new : List ℕ) (number place r : ℕ) → answer ≡ long.Refused number place → Wrote old 0 (refusal_line number place) refusal_room r new → Says answer old r new
-says_refusal answer old new number place r e w = line number place e w
+pub says_refusal : (answer : LengthAnswer) (old new : List ℕ) (refusal : Refusal) (r : ℕ) → answer ≡ Err refusal → Wrote old 0 (refusal_line (number_of refusal.rule) refusal.place) refusal_room r new
+    → Says answer old r new
+says_refusal answer old new refusal r e w = line refusal e w
 
 -- the whole result, and every byte of the text
 pub one_print : (s old new new' : List ℕ) (r r' : ℕ) → Printed s old r new → Printed s old r' new' → (r ≡ r') × (new ≡ new')
@@ -235,4 +237,4 @@ copied_leaves bytes old l = rw (room_ok (length bytes) old l)
 -- a text that is written straight into lent room
 pub ruleset straight = (fits, copied_tells, copied_leaves, put_front)
 
-pub ruleset answers = (array_long, made_all, made_few, few_enough, made_taken, made_own, nodes_least, nodes_most, written_whole, apart_inside, apart_copied, reported, made_refused, refusal_of, printed_of, says_report, says_refusal)
+pub ruleset answers = (array_long, made_in, all_enough, few_enough, made_taken, made_own, nodes_least, nodes_most, written_whole, apart_inside, apart_copied, reported, made_refused, refusal_of, printed_of, says_report, says_refusal)

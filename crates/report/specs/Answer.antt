@@ -1,7 +1,8 @@
 -- The tables that an answer of the entry `tables` goes with, and the text that the program prints.
-use Rattle.std.specs.Prelude.{◌≡◌, List, ℕ, ◌+◌, ◌*◌, ◌≤◌, length, Ok}
+use Rattle.std.specs.Prelude.{◌≡◌, List, ℕ, ◌+◌, ◌*◌, ◌≤◌, length, Ok, Err}
 use Rattle.rules.specs.Basics.{laid}
-use Rattle.rules.specs.Verdict.{Accepted}
+use Rattle.rules.specs.declared.Refusal.{Refusal}
+use Rattle.rules.specs.Verdict.{Accepted, number_of}
 use Rattle.rules.specs.Limits.{tables_length}
 use Rattle.rules.specs.File.{header_of, set_of}
 use Rattle.rules.specs.Judgement.{take_set}
@@ -24,7 +25,7 @@ refusal_room = 2 * labelled_room + 1
 -- what is said of an answer: the text that the report left, or else the refusal's line
 pub data Says (answer : LengthAnswer) (old : List ℕ) (r : ℕ) (new : List ℕ) : Type 0 where
   it : answer ≡ Ok r → new ≡ old → Says answer old r new
-  line : (number place : ℕ) → answer ≡ long.Refused number place → Wrote old 0 (refusal_line number place) refusal_room r new → Says answer old r new
+  line : (refusal : Refusal) → answer ≡ Err refusal → Wrote old 0 (refusal_line (number_of refusal.rule) refusal.place) refusal_room r new → Says answer old r new
 
 -- what the program prints of file s stands at the front of the text, r bytes
 pub record Printed (s old : List ℕ) (r : ℕ) (new : List ℕ) : Type 0 where

@@ -3,7 +3,7 @@ use mathlib.Core.Path.{◌≡◌, refl, sym, ◌∙◌}
 use mathlib.Core.List.{List}
 use Prim.Native.Nat.{ℕ}
 use Rattle.rules.specs.Basics.{need}
-use Rattle.rules.specs.Limits.{row_weights, row_length, home_records, link_place, home_place, row_place, file_length, tables_length, trail_room, longest}
+use Rattle.rules.specs.Limits.{row_weights, row_length, home_records, link_place, home_place, row_place, file_length, tables_length, trail_room, report_room, longest}
 use Rattle.rooms.specs.Rooms.{Room}
 
 pub longest_file : longest.file ≡ 9192
@@ -17,6 +17,10 @@ longest_tables = refl
 pub longest_trail : longest.trail ≡ 62
 unfolding trail_room longest
 longest_trail = refl
+
+pub longest_report : longest.report ≡ 23867
+unfolding report_room longest
+longest_report = refl
 
 -- two results that the promise allows coincide: every byte of the room
 pub one_room : (n : ℕ) (r r' : List ℕ) → Room n r → Room n r' → r ≡ r'

@@ -5,13 +5,13 @@ use Prim.Native.Nat.{ℕ, zero, suc, ◌+◌, ◌-◌, ◌*◌, ◌%◌, ◌^◌
 use native.Mathlib.Nat.{add-zero, add-suc, suc-add}
 use native.Mathlib.Numerals.{add-one}
 use native.Mathlib.Omega.{arith}
-use lib.ListN.{length, get_or, set, take, drop, length-set, length-drop}
+use lib.ListN.{length, set, take, drop, length-set, length-drop}
 use lib.Seq.{sets, length-sets, sets-eq, set_out, drop-drop, length-take-le}
 use borrow.Rule.Slice.PartMut.{mid_of, put_mid}
 use Rattle.std.specs.Int.{w16, to_be_bytes}
 use Rattle.rules.specs.Basics.{flat, laid}
-use Rattle.rules.specs.File.{two, bytes2}
-use Rattle.rules.proofs.Ground.Rows.{past, length_flat}
+use Rattle.rules.specs.File.{bytes2}
+use Rattle.rules.proofs.Ground.Rows.{length_flat}
 use Rattle.slices.specs.Stores.{put}
 
 pub length_put : (d : List ℕ) (at : ℕ) (l : List ℕ) → length (put d at l) ≡ length d
@@ -29,16 +29,6 @@ sets_then (x ∷ xs) ys d at =
 pub put_then : (d e e' : List ℕ) (at to : ℕ) (xs ys : List ℕ) → e ≡ put d at xs → e' ≡ put e to ys → to ≡ at + length xs → e' ≡ put d at (xs ++ ys)
 unfolding put
 put_then d e e' at to xs ys p q r = q ∙ ap₂ (λ (l : List ℕ) (x : ℕ). sets l x ys) p r ∙ sets_then xs ys d at
-
--- ---- two bytes, read
-
-pub two_there : (d : List ℕ) (at h l r : ℕ) → h ≡ get_or d at 0 → l ≡ get_or d (at + 1) 0 → r ≡ h * 256 + l → r ≡ two d at
-unfolding two
-two_there d at h l r p q e = omega (arith, p, q, e)
-
-pub two_short : (d : List ℕ) (at h r : ℕ) → h ≡ get_or d at 0 → length d ≤ at + 1 → r ≡ h * 256 + 0 → r ≡ two d at
-unfolding two
-two_short d at h r p e q = omega (arith, p, q, past d (at + 1) e)
 
 -- ---- bytes
 
@@ -74,11 +64,11 @@ pub put_past : (d l : List ℕ) (at : ℕ) → length d ≤ at → d ≡ put d a
 unfolding put
 put_past d l at h = sym (sets_past l d at h)
 
-pub number_put : (d e l : List ℕ) (at w : ℕ) → e ≡ put d at l → l ≡ to_be_bytes w16 w → w < 2 ^ 16 → e ≡ put d at (bytes2 w)
+pub number_bytes : (w : ℕ) → w < 2 ^ 16 → bytes2 w ≡ to_be_bytes w16 w
 unfolding bytes2
-number_put d e l at w p q h = p ∙ ap (put d at) (q ∙ ap (λ (x : ℕ). x ∷ w % 256 ∷ []) (omega arith))
+number_bytes w h = ap (λ (x : ℕ). x ∷ w % 256 ∷ []) (omega arith)
 
-pub ruleset bytes = (put_part, put_short, put_past, number_put)
+pub ruleset bytes = (put_part, put_short, put_past, number_bytes)
 
 -- ---- records in turn
 

@@ -1,7 +1,7 @@
 // Numbers at a place in a slice, read and stored at any place. A read past the end gives 0, and a store past the end alters nothing,
 // so no caller has to check a place. Where a place is known to be before the end, `two_within` and its like read and store without a test.
 // Each function promises the entry, or the whole slice after the store.
-#![tactic(auto)]
+#![tactic(auto, unfolding(rules::specs::File::two))]
 
 pub mod store; // store.rt: bytes, numbers of two bytes, and another slice at the front
 

@@ -1,4 +1,6 @@
 // Stores: each promises the slice with these bytes from `at` on, as far as it reaches; `copy` the slice with all of another at its front.
+#![tactic(auto, using(crate::proofs::Stores::bytes))]
+
 ghost use Rattle.std.specs.Prelude.{◌≡◌, ◌++◌, ◌+◌, ◌^◌, ◌≤◌, ◌<◌, length, drop};
 ghost use Rattle.rules.specs.File.{bytes2};
 ghost use Rattle.slices.specs.Stores.{put};

@@ -24,13 +24,13 @@ pub only_at : (v : ℕ) → v < 32 → (1 * 2 ^ v) % 2 ^ 32 ≡ only v
 unfolding only
 only_at v h = shifted v h
 
-pub adding_at : (w v : ℕ) → v < 32 → bit_or w ((1 * 2 ^ v) % 2 ^ 32) ≡ adding w v
-unfolding adding
-adding_at w v h = ap (bit_or w) (shifted v h)
+pub adding_at : (w v x : ℕ) → x ≡ only v → bit_or w x ≡ adding w v
+unfolding adding only
+adding_at w v x e = ap (bit_or w) e
 
-pub removing_at : (w v : ℕ) → v < 32 → bit_and w (2 ^ 32 - 1 - (1 * 2 ^ v) % 2 ^ 32) ≡ removing w v
-unfolding removing
-removing_at w v h = ap (λ (x : ℕ). bit_and w (2 ^ 32 - 1 - x)) (shifted v h)
+pub removing_at : (w v x : ℕ) → x ≡ only v → bit_and w (2 ^ 32 - 1 - x) ≡ removing w v
+unfolding removing only
+removing_at w v x e = ap (λ (y : ℕ). bit_and w (2 ^ 32 - 1 - y)) e
 
 pub firsts_at : (n : ℕ) → 1 ≤ n → n ≤ 32 → (2 ^ 32 - 1) / 2 ^ (32 - n) ≡ firsts n
 unfolding firsts
@@ -49,3 +49,5 @@ put_in t w v r e q = rw q e
 pub put_out : (t : Bool) (w v : ℕ) → t ≡ false → w ≡ put t w v
 unfolding put
 put_out t w v q = rw q
+
+pub ruleset words = (has_at, only_at, adding_at, removing_at, firsts_at, lowest_byte, put_in, put_out)

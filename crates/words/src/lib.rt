@@ -1,7 +1,7 @@
 // A set of nodes as a 32-bit word: node v is in it where bit v is set. Each function promises one equation with the definition
 // of its name; who is in the result, how many ones a word has and which is its lowest stand as laws in proofs/, in terms of
 // the definitions of 01. A node is below 32 here.
-#![tactic(auto)]
+#![tactic(auto, using(crate::proofs::Laws::words), unfolding(crate::specs::Word::both, crate::specs::Word::either, crate::specs::Word::minus, crate::specs::Word::lowest_in))]
 
 ghost use Rattle.std.specs.Prelude.{◌≡◌, ◌<◌, ◌≤◌};
 ghost use Rattle.std.specs.Int.Count.{ones};
@@ -44,7 +44,7 @@ pub fn only(v: u8) -> u32
     requires { v < 32 }
     ensures { result ≡ only v }
 {
-    1u32 << v
+    1 << v
 }
 
 // Rules out: v alone, the others lost; v taken out where it was in already.
@@ -52,7 +52,7 @@ pub fn adding(w: u32, v: u8) -> u32
     requires { v < 32 }
     ensures { result ≡ adding w v }
 {
-    w | (1u32 << v)
+    w | only(v)
 }
 
 // Rules out: v put in where it was not; a node other than v taken out.
@@ -60,7 +60,7 @@ pub fn removing(w: u32, v: u8) -> u32
     requires { v < 32 }
     ensures { result ≡ removing w v }
 {
-    w & !(1u32 << v)
+    w & !only(v)
 }
 
 // The nodes below n.
@@ -69,7 +69,7 @@ pub fn firsts(n: u8) -> u32
     requires { (1 ≤ n) × (n ≤ 32) }
     ensures { result ≡ firsts n }
 {
-    4294967295u32 >> (32 - n)
+    u32::MAX >> (32 - n)
 }
 
 // How many are in it: the count of ones.
@@ -77,14 +77,7 @@ pub fn firsts(n: u8) -> u32
 pub fn size(w: u32) -> u32
     ensures { result ≡ ones w }
 {
-    u32::count_ones(w)
-}
-
-// The trailing zeros of a word: the number of its lowest member.
-fn zeros_below(w: u32) -> u32
-    ensures { result ≡ lowest_in w }
-{
-    u32::trailing_zeros(w)
+    w.count_ones()
 }
 
 // The lowest member; 32 where there is none.
@@ -92,7 +85,7 @@ fn zeros_below(w: u32) -> u32
 pub fn lowest(w: u32) -> u8
     ensures { result ≡ lowest_in w }
 {
-    zeros_below(w) as u8
+    w.trailing_zeros() as u8
 }
 
 // With v in it where the test held.
@@ -101,8 +94,5 @@ pub fn put(t: bool, w: u32, v: u8) -> u32
     requires { v < 32 }
     ensures { result ≡ put t w v }
 {
-    if t {
-        return adding(w, v);
-    }
-    w
+    if t { adding(w, v) } else { w }
 }

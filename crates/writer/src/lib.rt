@@ -52,7 +52,7 @@ fn in_own_room(net: Network, lists: Lists, file: &mut [u8]) -> Result<usize, Ref
     requires { given_verdict net (length lists.a.now) (length lists.b.now) (length lists.weights.now) (length lists.homes.now) (length lists.rows.now) ≡ Accepted }
     ensures { Copied (encode (set_with net (held lists.entry))) file.old result file.new }
 {
-    let mut room = rooms::file();
+    let mut room = rooms::room::<{ Network::LONGEST_FILE }>();
     let long = net.file_length();
     laid(net, lists, &mut room[..long], file)
 }

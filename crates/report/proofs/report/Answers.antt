@@ -1,5 +1,8 @@
 use Rattle.report.proofs.Answers.{answers}
 use Rattle.report.proofs.report.Goals as goal
 
-pub by_few-requires : goal.by_few-requires
-by_few-requires c = search answers
+pub by_tables_in-requires : goal.by_tables_in-requires
+by_tables_in-requires c = search answers
+
+pub by_tables_in-requires-2 : goal.by_tables_in-requires-2
+by_tables_in-requires-2 c = search answers

@@ -1,5 +1,0 @@
-use Rattle.laying.proofs.Stores.{lays}
-use Rattle.laying.proofs.set.Goals as goal
-
-pub returns : goal.returns
-returns c = search lays

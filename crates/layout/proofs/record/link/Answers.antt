@@ -1,5 +1,0 @@
-use Rattle.layout.proofs.Records.{records}
-use Rattle.layout.proofs.record.link.Goals as goal
-
-pub returns : goal.returns
-returns c = search records

@@ -1,5 +1,0 @@
-use Rattle.report.proofs.Answers.{answers}
-use Rattle.report.proofs.by_all.Goals as goal
-
-pub report_by-requires : goal.report_by-requires
-report_by-requires c = search answers

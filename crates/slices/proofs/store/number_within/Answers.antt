@@ -1,5 +1,0 @@
-use Rattle.slices.proofs.Stores.{bytes}
-use Rattle.slices.proofs.store.number_within.Goals as goal
-
-pub returns : goal.returns
-returns c = search bytes
