@@ -17,43 +17,34 @@ use Rattle.rules.specs.Distance.{far}
 use Rattle.rules.proofs.Ground.Choices.{if_yes, if_no}
 use Rattle.routes.proofs.Lanes.{same?, column_at}
 use Rattle.words.specs.Word.{either, lowest_in, only}
-use Rattle.alternates.specs.Alternates.{noted, noted_link, outlets_by, eligible, least_of, near_bit, near_word, alternate_by, alternate_of, Homed, RowBy, RowOf, RowsTo}
-
--- ---- `note_link`
-pub link_same : (u x y p q : ℕ) (near : List Bool) → p ≡ q → near ≡ noted_link u x y p q near
-unfolding noted_link
-link_same u x y p q near e = sym (if_yes (eqb p q) near (noted u y x (noted u x y near)) (eq-eqb p q e))
-
-pub link_noted : (u x y p q : ℕ) (near : List Bool) → (p ≡ q → ⊥)
-    → set (set near y (get_or near y false || eqb x u)) x (get_or (set near y (get_or near y false || eqb x u)) x false || eqb y u) ≡ noted_link u x y p q near
-unfolding noted_link noted
-link_noted u x y p q near ne = sym (if_no (eqb p q) near (noted u y x (noted u x y near)) (ne_eqb p q ne))
+use Rattle.alternates.specs.Alternates.{noted, noted_link, outlets_by, eligible, least_of, near_bit, near_word, alternate_by, alternate_of, RowBy, RowOf, RowsTo}
 
 -- ---- `outlets`
 pub outlets_none : (a b homes : List ℕ) (u : ℕ) → replicate 32 false ≡ outlets_by a b homes u 0
 unfolding outlets_by
 outlets_none a b homes u = refl
 
-module _ (a b homes : List ℕ) (n l : ℕ) (H : Homed a b homes n) (h : l < length a) where
-  pub a_few : get_or a l 0 < 32
-  a_few = omega (arith, H.a_in l h, H.few)
+module _ (a b homes : List ℕ) (u l : ℕ) (near e : List Bool) (N : near ≡ outlets_by a b homes u l) where
+  x : ℕ
+  x = get_or a l 0
 
-  pub a_homed : get_or a l 0 < length homes
-  a_homed = omega (arith, H.a_in l h, H.homes_long)
+  y : ℕ
+  y = get_or b l 0
 
-  pub b_few : get_or b l 0 < 32
-  b_few = omega (arith, H.b_in l h, H.few)
+  one : List Bool
+  one = set near y (get_or near y false || eqb x u)
 
-  pub b_homed : get_or b l 0 < length homes
-  b_homed = omega (arith, H.b_in l h, H.homes_long)
+  pub outlets_more : (get_or homes (get_or a l 0) 0 ≡ get_or homes (get_or b l 0) 0 → ⊥)
+      → e ≡ set (set near (get_or b l 0) (get_or near (get_or b l 0) false || eqb (get_or a l 0) u)) (get_or a l 0) (get_or (set near (get_or b l 0) (get_or near (get_or b l 0) false || eqb (get_or a l 0) u)) (get_or a l 0) false || eqb (get_or b l 0) u)
+      → e ≡ outlets_by a b homes u (l + 1)
+  unfolding outlets_by noted_link noted x y one
+  outlets_more ne h =
+      h ∙ rw (add-one, ← N) (sym (if_no (eqb (get_or homes x 0) (get_or homes y 0)) near (set one x (get_or one x false || eqb y u)) (ne_eqb (get_or homes x 0) (get_or homes y 0) ne)))
 
-  pub b_reads : l < length b
-  b_reads = omega (arith, H.b_long)
-
-pub outlets_more : (a b homes : List ℕ) (u l : ℕ) (near e : List Bool) → near ≡ outlets_by a b homes u l
-    → e ≡ noted_link u (get_or a l 0) (get_or b l 0) (get_or homes (get_or a l 0) 0) (get_or homes (get_or b l 0) 0) near → e ≡ outlets_by a b homes u (l + 1)
-unfolding outlets_by
-outlets_more a b homes u l near e N h = h ∙ rw (N, add-one)
+  pub outlets_same : get_or homes (get_or a l 0) 0 ≡ get_or homes (get_or b l 0) 0 → e ≡ near → e ≡ outlets_by a b homes u (l + 1)
+  unfolding outlets_by noted_link noted x y one
+  outlets_same same h =
+      h ∙ rw (add-one, ← N) (sym (if_yes (eqb (get_or homes x 0) (get_or homes y 0)) near (set one x (get_or one x false || eqb y u)) (eq-eqb (get_or homes x 0) (get_or homes y 0) same)))
 
 pub outlets_done : (a b homes : List ℕ) (u l : ℕ) (near : List Bool) → near ≡ outlets_by a b homes u l → l ≤ length a → length a ≤ l → near ≡ outlets_by a b homes u (length a)
 outlets_done a b homes u l near N h g = let z : l ≡ length a = omega arith in subst (λ (k : ℕ). near ≡ outlets_by a b homes u k) z N
@@ -182,6 +173,3 @@ module _ (a b homes : List ℕ) (i : ℕ) (d alts : List (List ℕ)) where
 
   pub nodes_done : (k : ℕ) (e : List (List ℕ)) → RowsTo a b homes i d k alts e → length alts ≤ k → length alts ≡ length d → RowsTo a b homes i d (length d) alts e
   nodes_done k e R h l = record { long = R.long; done = λ u g. R.done u (omega arith); kept = R.kept }
-
-  pub nodes_homed : Homed a b homes (length d) → Homed a b homes (length homes)
-  nodes_homed H = rw H.homes_long H

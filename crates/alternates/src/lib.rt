@@ -5,7 +5,7 @@
 
 ghost use Rattle.std.specs.Prelude.{◌≡◌, false, ◌≤◌, ◌<◌, length};
 ghost use Rattle.std.specs.Option.{unwrap_or};
-ghost use Rattle.alternates.specs.Alternates.{noted_link, outlets_by, eligible, least_of, near_word, alternate_by, Homed, RowBy, RowOf, RowsTo};
+ghost use Rattle.alternates.specs.Alternates.{outlets_by, eligible, least_of, near_word, alternate_by, Homed, RowBy, RowOf, RowsTo};
 
 use routes::{Ends, FAR};
 use rules::Network;
@@ -13,18 +13,6 @@ use words::{either, lowest, only};
 
 // What the tables hold where there is no alternate.
 const NONE: u8 = 255;
-
-// Over a link between x and y, whose homes are p and q: where these differ, each is noted if the other is u.
-fn note_link(near: &mut [bool; Network::MOST_NODES], u: usize, x: usize, y: usize, p: u8, q: u8)
-    requires { (x < 32) × (y < 32) }
-    ensures { near.new ≡ noted_link u x y p q near.old }
-{
-    if p == q {
-        return;
-    }
-    near[y] |= x == u;
-    near[x] |= y == u;
-}
 
 // The neighbours of a node that have another home than it, as flags, and the distances d of its home topology.
 #[derive(Clone, Copy)]
@@ -115,7 +103,10 @@ impl Homes<'_> {
         for l in 0..self.ends.a.len() {
             let x = self.ends.a[l] as usize;
             let y = self.ends.b[l] as usize;
-            note_link(&mut near, u, x, y, self.homes[x], self.homes[y]);
+            if self.homes[x] != self.homes[y] {
+                near[y] |= x == u;
+                near[x] |= y == u;
+            }
         }
         near
     }

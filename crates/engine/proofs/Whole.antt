@@ -155,9 +155,6 @@ module _ (net : Network) (a b weights homes rows : List ℕ) (S : Set) (V : list
       record { is = start_none (hop_table S) (S.net.n * S.net.n) out; alternates = record { long = l; is = λ u lu h. absurd (omega arith) } }
 
   module _ (i : ℕ) (out₀ out : List ℕ) (alts : List (List ℕ)) (Q : Stage S out₀ out alts i) where
-    pub stage_alternates : AlternatesBelow S i alts
-    stage_alternates = Q.alternates
-
     pub stage_more : (y : List ℕ) (e : List (List ℕ)) → Added S i y e
         → Stage S out₀ (take (i * (net.n * net.n)) out ++ (y ++ drop (i * (net.n * net.n) + net.n * net.n - i * (net.n * net.n)) (drop (i * (net.n * net.n)) out))) e (i + 1)
     stage_more y e D =

@@ -138,13 +138,13 @@ fn copy_rows(alts: &[[u8; Network::MOST_NODES]], out: &mut [u8])
 // The tables of an accepted set that is held as lists.
 // Rules out: a way over a link with both ends isolated `routes/isolated_link_usable`; v itself as the alternate for v
 // `alternates/alternate_may_be_v`.
-pub fn fill_tables<'a>(
+pub fn fill_tables(
     net: Network,
     a: &[u8],
     b: &[u8],
-    weights: &'a [u16],
+    weights: &[u16],
     homes: &[u8],
-    rows: &'a [u16],
+    rows: &[u16],
     out: &mut [u8],
 )
     requires accepted_set { AcceptedSet (listed net a.now b.now weights.now homes.now rows.now) }

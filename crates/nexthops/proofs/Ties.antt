@@ -84,11 +84,6 @@ module _ (a b c : List ℕ) (l : ℕ) (d v w : List (List ℕ)) (F : Wired a b c
       let g : l < length a = omega (arith, F.c_long) in
       record { x_in = F.a_in l g; w_in = omega (arith, F.a_in l g); y_in = F.b_in l g; c_low = F.c_low l g; y_few = omega (arith, F.b_in l g, F.few) }
 
-  pub spot_back : (u : List (List ℕ)) → length u ≡ length v → MarkSpot d u (get_or b l 0) (get_or a l 0) (get_or c l 0)
-  spot_back u q =
-      let g : l < length a = omega (arith, F.c_long) in
-      record { x_in = F.b_in l g; w_in = omega (arith, F.b_in l g); y_in = F.a_in l g; c_low = F.c_low l g; y_few = omega (arith, F.a_in l g, F.few) }
-
 pub links_none : (a b c : List ℕ) (d w : List (List ℕ)) → Marked d w w (marks (net_of a b c) 0)
 unfolding marks
 links_none a b c d w = record { is = λ t h. refl; long = refl }

@@ -1,5 +1,5 @@
 -- A lent list that is filled from the front, value by value or row by row.
-use Prim.Native.Nat.{ℕ, suc, ◌+◌, ◌-◌, ◌*◌, ◌^◌, ◌≤◌, ◌<◌}
+use Prim.Native.Nat.{ℕ, suc, ◌+◌, ◌-◌, ◌*◌, ◌≤◌, ◌<◌}
 use native.Mathlib.Nat.{zero-mul, suc-mul, mul-le-mul, mul-le-mul_right}
 use native.Mathlib.Numerals.{add-one}
 use native.Mathlib.Omega.{arith}
@@ -9,7 +9,6 @@ use lib.ListN.{length, get_or, set, take, drop, length-drop}
 use lib.Seq.{drop-cons, set_at, append_snoc, drop-length, drop-drop, drop_at, take_at, length-take-le}
 use mir.Syntax.{w64}
 use mir.Val.{Fits}
-use borrow.Rule.Slice.PartMut.{same_len_mid}
 use Rattle.rules.specs.Basics.{up_to, flat}
 use Rattle.rules.proofs.Ground.Rows.{length_up_to, length_flat}
 
@@ -32,21 +31,11 @@ fill_done f d e i n q h g m =
 
 -- ---- row by row: rows of n from `at` on, k of them done
 
-pub rows_none : (f : ℕ → List ℕ) (d : List ℕ) → d ≡ flat f 0 ++ drop 0 d
-unfolding flat
-rows_none f d = refl
-
-pub at_none : (n : ℕ) → 0 ≡ 0 * n
-at_none n = sym (zero-mul n)
-
 pub at_more : (k n at : ℕ) → at ≡ k * n → at + n ≡ (k + 1) * n
 at_more k n at e = rw (e, add-one, suc-mul)
 
 pub at_room : (k l n at m : ℕ) → k < l → at ≡ k * n → m ≡ l * n → at + n ≤ m
 at_room k l n at m h e f = rw (at_more k n at e, f, add-one) (mul-le-mul_right n h)
-
-pub at_fits : (k l n at m : ℕ) → k < l → at ≡ k * n → m ≡ l * n → m < 2 ^ 64 → Fits w64 (at + n)
-at_fits k l n at m h e f g = record { fits = omega (arith, at_room k l n at m h e f) }
 
 pub at_end : (k l n at m s : ℕ) → s ≡ m → k < l → at ≡ k * n → m ≡ l * n → at + n ≤ s
 at_end k l n at m s es h e f = rw es (at_room k l n at m h e f)
@@ -71,10 +60,6 @@ rows_done f n l k at d e h g q s p =
     let w : k ≡ l = omega arith in
     let v : at ≡ length d = q ∙ ap (λ (j : ℕ). j * n) w ∙ sym s in
     p ∙ rw (w, v, drop-length) (append-nil (flat f l))
-
-pub rows_long : (n at : ℕ) (e y : List ℕ) (m : ℕ) → length y ≡ length (take (at + n - at) (drop at e)) → length e ≡ m
-    → length (take at e ++ (y ++ drop (at + n - at) (drop at e))) ≡ m
-rows_long n at e y m l le = same_len_mid at (at + n - at) e y l ∙ le
 
 -- ---- the same where row k of rows of n starts at k * n
 

@@ -38,14 +38,8 @@ pub lanes_more : (c t new : ℕ) (q p e : List ℕ) → e ≡ lanes c q t p → 
 unfolding lanes lane
 lanes_more c t new q p e is en = rw (en, is, add-one)
 
-pub lanes_done : (c t : ℕ) (q p e : List ℕ) → e ≡ lanes c q t p → t ≤ 32 → 32 ≤ t → e ≡ lanes c q 32 p
-lanes_done c t q p e is h g = let w : t ≡ 32 = omega arith in is ∙ ap (λ (k : ℕ). lanes c q k p) w
-
 pub sum_fits : (c t : ℕ) (q : List ℕ) → LowRow q → t < 32 → c ≤ far → Fits w32 (c + get_or q t 0)
 sum_fits c t q L g h = record { fits = omega (arith, L.low t g) }
-
-pub sum_fits_lt : (c t : ℕ) (q : List ℕ) → LowRow q → t < 32 → c < far → Fits w32 (c + get_or q t 0)
-sum_fits_lt c t q L g h = record { fits = omega (arith, L.low t g) }
 
 pub sum_low : (c t : ℕ) (q : List ℕ) → LowRow q → t < 32 → c < far → c + get_or q t 0 < 2147483648
 sum_low c t q L g h = omega (arith, L.low t g)

@@ -5,8 +5,7 @@ use native.Mathlib.Omega.{arith}
 use mathlib.Core.Path.{◌≡◌, refl, sym, ap, subst, ◌∙◌}
 use mathlib.Core.List.{List, []}
 use lib.ListN.{length, get_or, set}
-use lib.Seq.{get_or-set_same, get_or-set_other, ext_get_or}
-use borrow.Author.Count.{below_more, below_none}
+use lib.Seq.{ext_get_or}
 use Rattle.rules.specs.Basics.{up_to}
 use Rattle.rules.specs.Distance.{far}
 use Rattle.rules.proofs.Ground.Rows.{length_up_to, get_d_up_to}
@@ -16,12 +15,6 @@ use Rattle.routes.proofs.Lanes.{low_falls}
 use Rattle.routes.proofs.Passes.{direct_length, direct_le, through_far, through_near, through_length, through_low, units_low}
 
 -- ---- `begin`
-pub unit_none : (d : List (List ℕ)) → (v : ℕ) → v < 0 → get_or d v [] ≡ unit_row v
-unit_none d = below_none (λ v. get_or d v [] ≡ unit_row v)
-
-pub unit_more : (d : List (List ℕ)) (m u : ℕ) (r : List ℕ) → ((v : ℕ) → v < u → get_or d v [] ≡ unit_row v) → r ≡ unit_row u → u < m → length d ≡ m → (v : ℕ) → v < u + 1 → get_or (set d u r) v [] ≡ unit_row v
-unit_more d m u r all e h l = below_more (λ v. get_or (set d u r) v [] ≡ unit_row v) u (λ v g. get_or-set_other d u v r [] (λ z. omega arith) ∙ all v g) (get_or-set_same d u r [] (omega arith) ∙ e)
-
 pub begun : (d e : List (List ℕ)) (i : ℕ) → ((v : ℕ) → v < i → get_or e v [] ≡ unit_row v) → length d ≤ i → length e ≡ length d → e ≡ up_to unit_row (length d)
 begun d e i all h l =
     ext_get_or [] e (up_to unit_row (length d)) (l ∙ sym (length_up_to unit_row (length d)))
@@ -36,9 +29,6 @@ direct_is x y c v d e = rw e
 module _ (a b c : List ℕ) (l : ℕ) (d e : List (List ℕ)) (F : Wired a b c (length d)) (h : l < length c) (long : length e ≡ length d) where
   pub spot : Spot e (get_or a l 0) (get_or b l 0)
   spot = record { x_in = omega (arith, F.a_in l (omega (arith, F.c_long))); y_in = omega (arith, F.b_in l (omega (arith, F.c_long)), F.few) }
-
-  pub spot_back : (f : List (List ℕ)) → length f ≡ length e → Spot f (get_or b l 0) (get_or a l 0)
-  spot_back f q = record { x_in = omega (arith, F.b_in l (omega (arith, F.c_long))); y_in = omega (arith, F.a_in l (omega (arith, F.c_long)), F.few) }
 
 direct_low : (x y c : ℕ) (d : List (List ℕ)) → LowRows d → x < length d → LowRows (direct x y c d)
 direct_low x y c d L h = low_falls d (direct x y c d) L (λ u t g. direct_le x y c u t d h)
@@ -105,9 +95,6 @@ module _ (v : ℕ) (d : List (List ℕ)) where
   unfolding pass
   pass_more u e f is more = rw (more, is, add-one)
 
-  pub pass_done : (u : ℕ) (e : List (List ℕ)) → e ≡ pass v u d → u ≤ length d → length d ≤ u → e ≡ pass v (length d) d
-  pass_done u e is h g = let q : u ≡ length d = omega arith in subst (λ (k : ℕ). e ≡ pass v k d) q is
-
 -- ---- `settle`
 module _ (d : List (List ℕ)) where
   passes_kept : (v : ℕ) → LowRows d → (length (passes (length d) v d) ≡ length d) × LowRows (passes (length d) v d)
@@ -130,21 +117,12 @@ module _ (d : List (List ℕ)) where
   unfolding passes
   passes_more v e f is l more = rw (more, l, is, add-one)
 
-  pub passes_done : (v : ℕ) (e : List (List ℕ)) → e ≡ passes (length d) v d → v ≤ length d → length d ≤ v → e ≡ passes (length d) (length d) d
-  passes_done v e is h g = let q : v ≡ length d = omega arith in subst (λ (k : ℕ). e ≡ passes (length d) k d) q is
-
 -- ---- `distances`
-pub wired_few : (a b c : List ℕ) (n : ℕ) → Wired a b c n → n ≤ 32
-wired_few a b c n F = F.few
-
 pub units_wired : (a b c : List ℕ) (d e : List (List ℕ)) → Wired a b c (length d) → length e ≡ length d → Wired a b c (length e)
 units_wired a b c d e F l = rw l F
 
 pub units_are_low : (a b c : List ℕ) (d e : List (List ℕ)) → Wired a b c (length d) → e ≡ up_to unit_row (length d) → LowRows e
 units_are_low a b c d e F is = rw is (units_low (length d) F.few)
-
-pub few_linked : (a b c : List ℕ) (d e f : List (List ℕ)) → Wired a b c (length d) → length e ≡ length d → length f ≡ length e → length f ≤ 32
-few_linked a b c d e f F l m = omega (arith, F.few)
 
 pub low_linked : (a b c : List ℕ) (d e f : List (List ℕ)) → Wired a b c (length d) → e ≡ up_to unit_row (length d) → length e ≡ length d → f ≡ direct_links (net_of a b c) (length a) e → LowRows f
 low_linked a b c d e f F is l more = low_all a b c e (units_wired a b c d e F l) (units_are_low a b c d e F is) f more

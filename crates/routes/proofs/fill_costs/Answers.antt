@@ -1,5 +1,5 @@
 use Rattle.routes.proofs.Costs.{costs_more}
-use Rattle.routes.proofs.Filling.{fill_done, fill_none}
+use Rattle.routes.proofs.Filling.{fill_none}
 use Rattle.routes.proofs.fill_costs.Goals as goal
 
 pub loop-l-init : goal.loop-l-init
@@ -7,6 +7,3 @@ loop-l-init c = search fill_none
 
 pub loop-l-preserved : goal.loop-l-preserved
 loop-l-preserved c = search costs_more
-
-pub returns : goal.returns
-returns c = search fill_done

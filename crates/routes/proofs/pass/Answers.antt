@@ -1,4 +1,4 @@
-use Rattle.routes.proofs.Steps.{pass_done, pass_low, pass_more, pass_none}
+use Rattle.routes.proofs.Steps.{pass_low, pass_more, pass_none}
 use Rattle.routes.proofs.pass.Goals as goal
 
 pub loop-u-init : goal.loop-u-init
@@ -9,6 +9,3 @@ through-requires-clause-low_rows c = search pass_low
 
 pub loop-u-preserved : goal.loop-u-preserved
 loop-u-preserved c = search pass_more
-
-pub returns : goal.returns
-returns c = search pass_done

@@ -1,4 +1,4 @@
-use Rattle.routes.proofs.Steps.{passes_done, passes_low, passes_more, passes_none}
+use Rattle.routes.proofs.Steps.{passes_low, passes_more, passes_none}
 use Rattle.routes.proofs.settle.Goals as goal
 
 pub loop-v-init : goal.loop-v-init
@@ -9,6 +9,3 @@ pass-requires-clause-low_rows c = search passes_low
 
 pub loop-v-preserved : goal.loop-v-preserved
 loop-v-preserved c = search passes_more
-
-pub returns : goal.returns
-returns c = search passes_done

@@ -1,14 +1,12 @@
-use Rattle.alternates.proofs.Neighbours.{a_few, b_few, outlets_done, outlets_more, outlets_none}
+use Rattle.alternates.proofs.Neighbours.{outlets_done, outlets_more, outlets_none, outlets_same}
 use Rattle.alternates.proofs.Homes.outlets.Goals as goal
+use Rattle.alternates.proofs.Homes.outlets.Goals.{then-self-x, else-self-x}
 
 pub loop-l-init : goal.loop-l-init
 loop-l-init c = search outlets_none
 
-pub note_link-requires : goal.note_link-requires
-note_link-requires c = (search a_few, search b_few)
-
 pub loop-l-preserved : goal.loop-l-preserved
-loop-l-preserved c = search outlets_more
+loop-l-preserved c = elim c.if-self-x.branch [ then-self-x w ↦ search outlets_more | else-self-x w ↦ search outlets_same ]
 
 pub returns : goal.returns
 returns c = search outlets_done
