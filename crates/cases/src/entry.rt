@@ -1,177 +1,136 @@
-// The entries: one small function for each, over the file as the case has it. They are the library's own, as C calls them, so an answer
-// is one word; but for the report, which the program `coverage` writes.
-ghost use Rattle.std.specs.Prelude.{◌≡◌, ◌≤◌};
+// The entries: one small function for each, over the file as the case has it. They are the library's own, as C calls them; their answers
+// are read from the words that C gets. But for the report, which the program `coverage` writes.
+ghost use Rattle.std.specs.Prelude.{◌≡◌};
 ghost use Rattle.rules.specs.Limits.{need_counts};
 
-use crate::run::run;
-use crate::{file, room, sweep};
+use crate::sweep;
 use burnishpeg::{
-    burnishpeg_build, burnishpeg_read, burnishpeg_report, burnishpeg_step, burnishpeg_tables,
-    burnishpeg_write,
+    burnishpeg_build, burnishpeg_read, burnishpeg_report, burnishpeg_run, burnishpeg_step,
+    burnishpeg_tables, burnishpeg_write,
 };
+use layout::{header, home_topology, row_weight};
 use listing::lists_into;
+use phrases::answer::{Counts, Journey, Refusal, Stand, length};
 use phrases::show;
 use recordrules::counts;
 use rules::Network;
 use std::io;
 use std::io::Write;
-use std::num::wrapping_add_usize;
-use wording::asked::{
-    BUILD, READ, REPORT, REPORTED, RUN, STEP, SWEEP, TABLES, TAKE, WRITE, after, entry, failed,
-    kind, up_to,
-};
-use wording::{least, number, part};
+use wording::Length;
+use wording::asked::{Entry, FILE, LIST, Lists, TABLES, Tables, Trip, WEIGHTS};
+
+// What stands in a lent list before, and in lent bytes.
+const ENTRY: u8 = 7;
+
+const WEIGHT: u16 = 7;
+
+const BYTE: u8 = 238;
 
 // ---- take FILE
 
 // Read into lists that are long enough for every file, which are not shown.
-fn take(file: &[u8]) -> u64 {
-    let mut a = room::bytes();
-    let mut b = room::bytes();
-    let mut weights = room::wide();
-    let mut homes = room::bytes();
-    let mut rows = room::wide();
-    burnishpeg_read(file, &mut a, &mut b, &mut weights, &mut homes, &mut rows)
+fn take(file: &[u8]) -> Result<Counts, Refusal> {
+    let mut a = [ENTRY; LIST];
+    let mut b = [ENTRY; LIST];
+    let mut weights = [WEIGHT; WEIGHTS];
+    let mut homes = [ENTRY; LIST];
+    let mut rows = [WEIGHT; WEIGHTS];
+    Counts::try_from(burnishpeg_read(file, &mut a, &mut b, &mut weights, &mut homes, &mut rows))
 }
 
 // ---- report FILE
 
 // The report has lines of its own, below the name's.
 fn report<W: Write>(out: &mut W, file: &[u8]) -> io::Result<()> {
-    show::put(out, b':')?;
-    show::put(out, b'\n')?;
+    writeln!(out, ":")?;
     printer::show(out, file)
 }
 
 // ---- read FILE A B WEIGHTS HOMES ROWS
 
-// Into lists of these lengths, each entry 7.
-fn read_into<W: Write>(
-    out: &mut W,
-    file: &[u8],
-    a: usize,
-    b: usize,
-    weights: usize,
-    homes: usize,
-    rows: usize,
-) -> io::Result<()>
-    requires { (a ≤ 255) × ((b ≤ 255) × ((weights ≤ 8191) × ((homes ≤ 255) × (rows ≤ 8191)))) }
-{
-    let mut x = room::bytes();
-    let mut y = room::bytes();
-    let mut w = room::wide();
-    let mut h = room::bytes();
-    let mut r = room::wide();
-    let word = burnishpeg_read(
-        file,
-        &mut x[0..a],
-        &mut y[0..b],
-        &mut w[0..weights],
-        &mut h[0..homes],
-        &mut r[0..rows],
-    );
-    show::read(out, word)?;
-    show::list(out, show::ENDS_A, &x, a)?;
-    show::list(out, show::ENDS_B, &y, b)?;
-    show::wide_list(out, show::WEIGHTS, &w, weights)?;
-    show::list(out, show::HOMES, &h, homes)?;
-    show::wide_list(out, show::ROWS, &r, rows)
-}
-
-fn read<W: Write>(out: &mut W, words: &[u8], file: &[u8]) -> io::Result<()> {
-    read_into(
-        out,
-        file,
-        up_to(words, 2, 255),
-        up_to(words, 3, 255),
-        up_to(words, 4, 8191),
-        up_to(words, 5, 255),
-        up_to(words, 6, 8191),
-    )
+fn read<W: Write>(out: &mut W, lists: Lists, file: &[u8]) -> io::Result<()> {
+    let mut a = [ENTRY; LIST];
+    let mut b = [ENTRY; LIST];
+    let mut weights = [WEIGHT; WEIGHTS];
+    let mut homes = [ENTRY; LIST];
+    let mut rows = [WEIGHT; WEIGHTS];
+    let a = &mut a[..lists.a.entries];
+    let b = &mut b[..lists.b.entries];
+    let weights = &mut weights[..lists.weights.entries];
+    let homes = &mut homes[..lists.homes.entries];
+    let rows = &mut rows[..lists.rows.entries];
+    let word = burnishpeg_read(file, a, b, weights, homes, rows);
+    show::counts(out, Counts::try_from(word))?;
+    show::list(out, "ends a", a)?;
+    show::list(out, "ends b", b)?;
+    show::list(out, "weights", weights)?;
+    show::list(out, "homes", homes)?;
+    show::list(out, "rows", rows)
 }
 
 // ---- build FILE CAP ROOM
 
-// A row's first weight has its low byte one byte after the head.
+fn homes<W: Write>(out: &mut W, set: &[u8], net: Network) -> io::Result<()> {
+    write!(out, "  homes")?;
+    for v in 0..net.home_records() {
+        write!(out, " {}", home_topology(set, net, v))?;
+    }
+    writeln!(out)
+}
+
+fn row<W: Write>(out: &mut W, set: &[u8], net: Network, j: u8) -> io::Result<()> {
+    write!(out, "  row")?;
+    for l in 0..net.row_weights() {
+        write!(out, " {}", row_weight(set, net, usize::from(j), l))?;
+    }
+    writeln!(out)
+}
+
 fn rows<W: Write>(out: &mut W, set: &[u8], net: Network) -> io::Result<()> {
-    let k = net.k;
-    let mut j: u8 = 0;
-    while j < k {
-        let first = file::row_place(net, j as usize) + Network::ROW_HEAD + 1;
-        show::numbers(
-            out,
-            show::ROW,
-            set,
-            first,
-            Network::WEIGHT,
-            65535,
-            net.m as usize,
-        )?;
-        j += 1;
+    for j in 0..net.k {
+        row(out, set, net, j)?;
     }
     Ok(())
 }
 
-// The set at the front of a lent file: its homes, each a record's last byte, and its rows; whether it is taken in; the byte that follows.
-fn built<W: Write>(out: &mut W, file: &[u8], long: usize) -> io::Result<()> {
-    let net = file::header(file);
-    let first = file::home_place(net, 0) + 3;
-    show::next(out, long as u64)?;
-    show::say(out, show::BYTES)?;
-    show::numbers(
-        out,
-        show::HOMES,
-        file,
-        first,
-        Network::HOME,
-        255,
-        net.home_records(),
-    )?;
-    rows(out, file, net)?;
-    show::say(out, show::READ_BACK)?;
-    show::verdict(out, take(part(file, 0, long)))?;
-    show::numbers(out, show::BYTE_AFTER, file, long, 1, 255, 1)
+// The set at the front of a lent file: its homes and its rows; whether it is taken in; the byte that follows. Or the refusal.
+fn built<W: Write>(out: &mut W, word: u64, lent: &[u8]) -> io::Result<()> {
+    let long = match length(word) {
+        Ok(long) => long,
+        Err(refusal) => return show::refused(out, refusal, lent),
+    };
+    let net = header(lent);
+    show::bytes(out, long)?;
+    homes(out, lent, net)?;
+    rows(out, lent, net)?;
+    write!(out, "  read back")?;
+    show::verdict(out, take(lent.get(..long).unwrap_or(lent)))?;
+    show::byte(out, "the byte after it", lent, long)
 }
 
-// A refusal, and the first byte lent, which stays.
-fn refused<W: Write>(out: &mut W, word: u64, lent: &[u8]) -> io::Result<()> {
-    show::refused(out, word)?;
-    show::numbers(out, show::FIRST_BYTE, lent, 0, 1, 255, 1)
-}
-
-fn build_answer<W: Write>(
-    out: &mut W,
-    word: u64,
-    room: &[u8; 16384],
-    long: usize,
-) -> io::Result<()> {
-    let lent = part(room, 0, long);
-    show::put(out, b':')?;
-    match word >> 63 {
-        0 => built(out, lent, word as usize),
-        _ => refused(out, word, lent),
-    }
-}
-
-fn build<W: Write>(out: &mut W, words: &[u8], graph: &[u8]) -> io::Result<()> {
-    let cap = up_to(words, 2, 255) as u8;
-    let long = up_to(words, 3, 16384);
-    let mut file = room::set();
-    let word = burnishpeg_build(graph, cap, &mut file[0..long]);
-    build_answer(out, word, &file, long)
+fn build<W: Write>(out: &mut W, cap: u8, room: Length<FILE>, graph: &[u8]) -> io::Result<()> {
+    let mut file = [BYTE; FILE];
+    let lent = &mut file[..room.entries];
+    let word = burnishpeg_build(graph, cap, lent);
+    built(out, word, lent)
 }
 
 // ---- write FILE ROOM
 
 // The lists as they stand in the file's bytes, by the counts of its header, written into a lent file.
-fn write_lists<W: Write>(out: &mut W, file: &[u8], net: Network, long: usize) -> io::Result<()>
-    requires { (need_counts net 0 ≡ 0) × (long ≤ 16384) }
+fn write_lists<W: Write>(
+    out: &mut W,
+    net: Network,
+    room: Length<FILE>,
+    file: &[u8],
+) -> io::Result<()>
+    requires { need_counts net 0 ≡ 0 }
 {
-    let mut a = room::bytes();
-    let mut b = room::bytes();
-    let mut weights = room::wide();
-    let mut homes = room::bytes();
-    let mut rows = room::wide();
+    let mut a = [ENTRY; LIST];
+    let mut b = [ENTRY; LIST];
+    let mut weights = [WEIGHT; WEIGHTS];
+    let mut homes = [ENTRY; LIST];
+    let mut rows = [WEIGHT; WEIGHTS];
     lists_into(
         file,
         net,
@@ -181,144 +140,120 @@ fn write_lists<W: Write>(out: &mut W, file: &[u8], net: Network, long: usize) ->
         &mut homes,
         &mut rows,
     );
-    let mut lent = room::set();
+    let mut set = [BYTE; FILE];
+    let lent = &mut set[..room.entries];
     let word = burnishpeg_write(
-        net.n,
-        net.m,
-        net.k,
-        net.wmax,
-        &a,
-        &b,
-        &weights,
-        &homes,
-        &rows,
-        &mut lent[0..long],
+        net.n, net.m, net.k, net.wmax, &a, &b, &weights, &homes, &rows, lent,
     );
-    build_answer(out, word, &lent, long)
+    built(out, word, lent)
 }
 
 // Counts outside their ranges have no lists here.
-fn write<W: Write>(out: &mut W, words: &[u8], file: &[u8]) -> io::Result<()> {
-    let net = file::header(file);
+fn write<W: Write>(out: &mut W, room: Length<FILE>, file: &[u8]) -> io::Result<()> {
+    let net = header(file);
     match counts(net, 0) {
-        0 => write_lists(out, file, net, up_to(words, 2, 16384)),
-        _ => show::say(out, show::UNCLEAR),
+        0 => write_lists(out, net, room, file),
+        _ => show::unclear(out),
     }
 }
 
 // ---- tables FILE ROOM, reported FILE ROOM
 
-// So many bytes, and the one after them.
-fn length<W: Write>(out: &mut W, word: u64, lent: &[u8]) -> io::Result<()> {
-    show::next(out, word)?;
-    show::say(out, show::BYTES)?;
-    show::numbers(out, show::BYTE_AFTER, lent, word as usize, 1, 255, 1)
-}
-
-fn tables_answer<W: Write>(
-    out: &mut W,
-    word: u64,
-    room: &[u8; 65536],
-    long: usize,
-) -> io::Result<()> {
-    let lent = part(room, 0, long);
-    show::put(out, b':')?;
-    match word >> 63 {
-        0 => {
-            length(out, word, lent)?;
-            show::numbers(out, show::TABLES, lent, 0, 1, 255, word as usize)
+// So many bytes, and the one after them; or the refusal.
+fn written<W: Write>(out: &mut W, answer: Result<usize, Refusal>, lent: &[u8]) -> io::Result<()> {
+    match answer {
+        Ok(long) => {
+            show::bytes(out, long)?;
+            show::byte(out, "the byte after it", lent, long)
         }
-        _ => refused(out, word, lent),
+        Err(refusal) => show::refused(out, refusal, lent),
     }
 }
 
-fn tables<W: Write>(out: &mut W, words: &[u8], set: &[u8]) -> io::Result<()> {
-    let long = up_to(words, 2, 65536);
-    let mut lent = room::large();
-    let word = burnishpeg_tables(set, &mut lent[0..long]);
-    tables_answer(out, word, &lent, long)
+fn tables<W: Write>(out: &mut W, room: Length<TABLES>, set: &[u8]) -> io::Result<()> {
+    let mut tables = [BYTE; TABLES];
+    let lent = &mut tables[..room.entries];
+    let answer = length(burnishpeg_tables(set, lent));
+    written(out, answer, lent)?;
+    match answer {
+        Ok(long) => show::list(out, "tables", lent.get(..long).unwrap_or(lent)),
+        Err(_) => Ok(()),
+    }
 }
 
-fn text_answer<W: Write>(
+fn reported<W: Write>(out: &mut W, room: Length<TABLES>, set: &[u8]) -> io::Result<()> {
+    let mut text = [BYTE; TABLES];
+    let lent = &mut text[..room.entries];
+    let answer = length(burnishpeg_report(set, lent));
+    written(out, answer, lent)
+}
+
+// ---- run FILE SOURCE DESTINATION FAILURE, and then TABLES TRAIL or nothing
+
+// One run, as the library answers it.
+pub fn ended(
+    set: &[u8],
+    trip: Trip,
+    tables: &mut [u8],
+    trail: &mut [u8],
+) -> Result<Journey, Refusal> {
+    let (kind, failed) = trip.down.numbers();
+    Journey::try_from(burnishpeg_run(set, trip.from, trip.to, kind, failed, tables, trail))
+}
+
+// A length that is not told, or longer than the room, is the whole room's.
+fn part(room: &mut [u8], long: Option<u16>) -> &mut [u8] {
+    let most = room.len();
+    let long = long.map_or(most, usize::from).min(most);
+    &mut room[..long]
+}
+
+fn run<W: Write>(
     out: &mut W,
-    word: u64,
-    room: &[u8; 65536],
-    long: usize,
+    trip: Trip,
+    tables: Option<u16>,
+    trail: Option<u16>,
+    set: &[u8],
 ) -> io::Result<()> {
-    let lent = part(room, 0, long);
-    show::put(out, b':')?;
-    match word >> 63 {
-        0 => length(out, word, lent),
-        _ => refused(out, word, lent),
-    }
-}
-
-fn reported<W: Write>(out: &mut W, words: &[u8], set: &[u8]) -> io::Result<()> {
-    let long = up_to(words, 2, 65536);
-    let mut lent = room::large();
-    let word = burnishpeg_report(set, &mut lent[0..long]);
-    text_answer(out, word, &lent, long)
-}
-
-// ---- run FILE SOURCE DESTINATION FAILURE, and then TABLES TRAIL or nothing: a number that is not there is more than the room
-
-fn run_case<W: Write>(out: &mut W, words: &[u8], set: &[u8]) -> io::Result<()> {
-    let down = kind(words);
-    let which = least(failed(words, down), 65535) as u16;
-    let source = up_to(words, 2, 255) as u8;
-    let destination = up_to(words, 3, 255) as u8;
-    let next = after(down);
-    let tables = number(words, next);
-    let trail = number(words, wrapping_add_usize(next, 1));
-    run(
-        out,
-        set,
-        source,
-        destination,
-        down,
-        which,
-        tables,
-        trail,
-        true,
-    )?;
-    Ok(())
+    let mut a = [0; TABLES];
+    let mut b = [ENTRY; LIST];
+    let answer = ended(set, trip, part(&mut a, tables), part(&mut b, trail));
+    show::ended(out, answer, &b)
 }
 
 // ---- step FILE PLACE DESTINATION FAILURE TOPOLOGY TABLES ENTRY: by lent tables of so many bytes, each the same entry
 
-fn step<W: Write>(out: &mut W, words: &[u8], set: &[u8]) -> io::Result<()> {
-    let down = kind(words);
-    let next = after(down);
-    let topology = up_to(words, next, 255) as u8;
-    let long = up_to(words, wrapping_add_usize(next, 1), 65536);
-    let entry = up_to(words, wrapping_add_usize(next, 2), 255) as u8;
-    let tables = [entry; 65536];
-    let word = burnishpeg_step(
-        set,
-        &tables[0..long],
-        up_to(words, 2, 255) as u8,
-        up_to(words, 3, 255) as u8,
-        topology,
-        down,
-        least(failed(words, down), 65535) as u16,
-    );
-    show::stepped(out, word)
+fn alike(entry: u8) -> [u8; TABLES] {
+    [entry; TABLES]
+}
+
+fn step<W: Write>(
+    out: &mut W,
+    trip: Trip,
+    topology: u8,
+    lent: Tables,
+    set: &[u8],
+) -> io::Result<()> {
+    let tables = alike(lent.entry);
+    let tables = &tables[..lent.room.entries];
+    let (kind, failed) = trip.down.numbers();
+    let word = burnishpeg_step(set, tables, trip.from, trip.to, topology, kind, failed);
+    show::stepped(out, Stand::try_from(word))
 }
 
 // ---- all of them
 
-pub fn answer<W: Write>(out: &mut W, words: &[u8], file: &[u8], long: usize) -> io::Result<()> {
-    match entry(words, long) {
-        TAKE => show::verdict(out, take(file)),
-        SWEEP => sweep::all(out, file),
-        REPORT => report(out, file),
-        REPORTED => reported(out, words, file),
-        READ => read(out, words, file),
-        WRITE => write(out, words, file),
-        BUILD => build(out, words, file),
-        TABLES => tables(out, words, file),
-        RUN => run_case(out, words, file),
-        STEP => step(out, words, file),
-        _ => show::say(out, show::UNCLEAR),
+pub fn answer<W: Write>(out: &mut W, entry: Entry, file: &[u8]) -> io::Result<()> {
+    match entry {
+        Entry::Take => show::verdict(out, take(file)),
+        Entry::Sweep => sweep::all(out, file),
+        Entry::Report => report(out, file),
+        Entry::Reported(room) => reported(out, room, file),
+        Entry::Read(lists) => read(out, lists, file),
+        Entry::Write(room) => write(out, room, file),
+        Entry::Build(cap, room) => build(out, cap, room, file),
+        Entry::Tables(room) => tables(out, room, file),
+        Entry::Run(trip, tables, trail) => run(out, trip, tables, trail, file),
+        Entry::Step(trip, topology, tables) => step(out, trip, topology, tables, file),
     }
 }

@@ -26,108 +26,76 @@
 #![tactic(auto)]
 
 mod entry; // entry.rt: what is asked of the file, one function for each entry
-mod file; // file.rt: the house file
-mod room; // room.rt: rooms that are lent
-mod run; // run.rt: one run
 mod sweep; // sweep.rt: every single failure of a set
 
-ghost use Rattle.std.specs.Prelude.{◌≤◌, length};
+ghost use Rattle.std.specs.Prelude.{◌≤◌, length, IfSome};
 
+use console::fill;
 use phrases::show;
 use rooms::{FILE_AND_ONE, room};
 use std::fs::File;
 use std::io;
-use std::io::{Read, Write};
+use std::io::Write;
 use std::rt::Files;
-use wording::asked::own_words;
-use wording::{NONE, change, least, part, word};
+use wording::asked::{Case, Entry};
+use wording::change;
 
 // ---- one case
 
-// How many bytes are read: as many as the room holds, or as the file has. A read that fails ends the file there, so that the cases
-// after it are answered all the same.
-fn read_in<R: Read>(file: &mut R, room: &mut [u8]) -> usize
-    ensures { result ≤ length room.new }
+// The length of the file with this name, which is read into the room; None where there is no such file. A name is text in UTF-8. A read
+// that fails ends the file there, so that the cases after it are answered all the same.
+fn stored<R: Files>(files: &R, name: &[u8], room: &mut [u8]) -> Option<usize>
+    ensures { IfSome result (λ long. long ≤ length room.new) }
 {
-    let mut long = 0;
-    while long < room.len() {
-        match file.read(&mut room[long..]) {
-            Ok(0) | Err(_) => break,
-            Ok(more) => long += more,
-        }
+    let path = str::from_utf8(name).ok()?;
+    let mut file = File::open(files, path).ok()?;
+    let (long, _) = fill(&mut file, room);
+    Some(long)
+}
+
+// The case's entry and the length of its file, which stands in the room as the case has it; None where the case is not understood.
+fn understood<R: Files>(files: &R, text: &[u8], room: &mut [u8]) -> Option<(Entry, usize)> {
+    let case = Case::parse(text)?;
+    let long = stored(files, case.file, room)?;
+    let long = change::all(case.changes, room, long)?;
+    Some((case.entry, long))
+}
+
+fn case<R: Files, W: Write>(files: &R, out: &mut W, text: &[u8]) -> io::Result<()> {
+    let mut room = room::<FILE_AND_ONE>();
+    match understood(files, text, &mut room) {
+        Some((entry, long)) => entry::answer(out, entry, &room[..long.min(room.len())]),
+        None => show::unclear(out),
     }
-    long
-}
-
-// The length of the file with this name, which is read into the room; NONE where there is no such file. A name is text in UTF-8.
-fn stored<R: Files>(files: &R, name: &[u8], room: &mut [u8]) -> usize {
-    let Ok(path) = str::from_utf8(name) else {
-        return NONE;
-    };
-    match File::open(files, path) {
-        Ok(mut file) => read_in(&mut file, room),
-        Err(_) => NONE,
-    }
-}
-
-fn changed<R: Files, W: Write>(
-    files: &R,
-    out: &mut W,
-    words: &[u8],
-    file: &mut [u8],
-) -> io::Result<()> {
-    let stored_long = stored(files, word(words, 1), file);
-    let long = change::all(words, own_words(words), file, stored_long);
-    entry::answer(out, words, part(file, 0, long), long)
-}
-
-fn case<R: Files, W: Write>(files: &R, out: &mut W, words: &[u8]) -> io::Result<()> {
-    let mut file = room::<FILE_AND_ONE>();
-    changed(files, out, words, &mut file)
 }
 
 // ---- the list
 
-// A line by its start, its last colon and its end. A line with no colon is all name.
-fn line<R: Files, W: Write>(
-    files: &R,
-    out: &mut W,
-    list: &[u8],
-    start: usize,
-    colon: usize,
-    end: usize,
-) -> io::Result<()> {
-    match wording::entry(list, start) {
-        0 | b'\n' | b'#' => Ok(()),
-        _ => {
-            show::text(out, part(list, start, least(colon, end)))?;
-            case(files, out, part(list, colon, end))
-        }
-    }
+// A line's name ends at its last colon. A line with no colon is all name.
+fn line<R: Files, W: Write>(files: &R, out: &mut W, line: &[u8]) -> io::Result<()> {
+    let colon = line.iter().rposition(|letter| *letter == b':');
+    let (name, text) = line.split_at(colon.unwrap_or(line.len()));
+    out.write_all(name)?;
+    case(files, out, text)
 }
 
 fn each_line<R: Files, W: Write>(files: &R, out: &mut W, list: &[u8]) -> io::Result<()> {
-    let long = list.len();
-    let mut start = 0;
-    let mut colon = long;
-    let mut i = 0;
-    while i < long {
-        match wording::entry(list, i) {
-            b'\n' => {
-                line(files, out, list, start, colon, i)?;
-                start = i + 1;
-                colon = long;
-            }
-            b':' => colon = i,
-            _ => (),
+    for text in list.split(|letter| *letter == b'\n') {
+        match text.first() {
+            None | Some(0 | b'#') => {}
+            Some(_) => line(files, out, text)?,
         }
-        i += 1;
     }
-    line(files, out, list, start, colon, long)
+    Ok(())
 }
 
+// The longest list of cases, in bytes; what follows is not read.
+const LONGEST_LIST: usize = 65536;
+
 fn main(rt: HostRuntime) -> io::Result<()> {
-    let mut list = room::zeros();
-    let long = stored(&rt, b"cases", &mut list);
-    each_line(&rt, &mut rt.stdout(), part(&list, 0, long))
+    let mut list = [0; LONGEST_LIST];
+    match stored(&rt, b"cases", &mut list) {
+        Some(long) => each_line(&rt, &mut rt.stdout(), &list[..long]),
+        None => Ok(()),
+    }
 }

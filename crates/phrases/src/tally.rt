@@ -1,127 +1,101 @@
-// What a sweep counts: the runs by their numbers, how each must end, and the tally.
-use crate::show;
-use std::io;
+// What a sweep counts: how each run must end, and the tally.
+use crate::answer::{Journey, Outcome, Refusal};
 use std::io::Write;
-use std::num::{wrapping_add_u64, wrapping_add_usize};
+use std::{fmt, io};
+use wording::asked::{Down, Trip};
 
-// ---- the run with number i: from bit 10 on the failed link or node, then 5 bits for the source and 5 for the destination
+// ---- how a run ends
 
-pub fn failed(i: usize) -> u16 {
-    ((i >> 10) % 65536) as u16
+#[derive(Clone, Copy, PartialEq, Eq)]
+enum Fate {
+    Delivered,
+    Dropped,
+    Refused,
 }
 
-pub fn source(i: usize) -> u8 {
-    ((i >> 5) % 32) as u8
-}
+// The refusal of a run whose source is down.
+const SOURCE_DOWN: u8 = 12;
 
-pub fn destination(i: usize) -> u8 {
-    (i % 32) as u8
-}
-
-// Its ends are two different nodes of the first n.
-pub fn is_run(i: usize, n: u8) -> bool {
-    let s = source(i);
-    let d = destination(i);
-    if s < n {
-        if d < n {
-            return s != d;
+impl Fate {
+    // None where a run ended in none of the ways that one of an accepted set can.
+    fn of(run: Result<Journey, Refusal>) -> Option<Fate> {
+        match run {
+            Ok(journey) => match journey.outcome {
+                Outcome::Delivered => Some(Fate::Delivered),
+                Outcome::Dropped => Some(Fate::Dropped),
+                Outcome::UnderWay => None,
+            },
+            Err(refusal) => (refusal.number == SOURCE_DOWN).then_some(Fate::Refused),
         }
     }
-    false
-}
 
-// ---- how it ends: the answer's last 8 bits, or what stands from bit 32 on where it is refused
-
-const DELIVERED: u64 = 1;
-
-const DROPPED: u64 = 2;
-
-// By 12.
-const REFUSED: u64 = 0x8000000c;
-
-fn how(word: u64) -> u64 {
-    match word >> 63 {
-        0 => word & 255,
-        _ => word >> 32,
+    fn expected(trip: Trip) -> Fate {
+        match trip.down {
+            Down::Node(v) if v == u16::from(trip.from) => Fate::Refused,
+            Down::Node(v) if v == u16::from(trip.to) => Fate::Dropped,
+            _ => Fate::Delivered,
+        }
     }
 }
 
-// Where a node failed.
-fn with_node(i: usize) -> u64 {
-    if failed(i) == source(i) as u16 {
-        return REFUSED;
+// The hops. Of a refusal the byte that stands in its word where the hops would: the last of its place but one.
+fn hops(run: Result<Journey, Refusal>) -> u8 {
+    match run {
+        Ok(journey) => journey.hops,
+        Err(refusal) => {
+            let [_, _, hops, _] = refusal.place.to_be_bytes();
+            hops
+        }
     }
-    if failed(i) == destination(i) as u16 {
-        return DROPPED;
-    }
-    DELIVERED
-}
-
-fn expected(kind: u8, i: usize) -> u64 {
-    match kind {
-        2 => with_node(i),
-        _ => DELIVERED,
-    }
-}
-
-fn wrong<W: Write>(out: &mut W, kind: u8, i: usize) -> io::Result<()> {
-    show::say(out, show::WRONG)?;
-    show::next(out, source(i) as u64)?;
-    show::say(out, show::TO)?;
-    show::next(out, destination(i) as u64)?;
-    show::say(out, wrapping_add_usize(show::DOWN, kind as usize))?;
-    show::next(out, failed(i) as u64)
 }
 
 // Says so where a run did not end as it must, or made more than 2n - 3 hops.
-pub fn look<W: Write>(out: &mut W, word: u64, kind: u8, i: usize, n: u8) -> io::Result<()> {
-    if how(word) == expected(kind, i) {
-        if ((word >> 8) % 256) + 3 <= 2 * (n as u64) {
-            return Ok(());
+pub fn look<W: Write>(
+    out: &mut W,
+    run: Result<Journey, Refusal>,
+    trip: Trip,
+    n: u8,
+) -> io::Result<()> {
+    let within = u16::from(hops(run)) + 3 <= 2 * u16::from(n);
+    if Fate::of(run) == Some(Fate::expected(trip)) && within {
+        return Ok(());
+    }
+    write!(
+        out,
+        "\n  WRONG from {} to {}, {}",
+        trip.from, trip.to, trip.down
+    )
+}
+
+// ---- the tally
+
+// The runs delivered, dropped and refused, and the most hops.
+#[derive(Clone, Copy, Default)]
+pub struct Tally {
+    delivered: u32,
+    dropped: u32,
+    refused: u32,
+    longest: u8,
+}
+
+impl Tally {
+    pub fn count(&mut self, run: Result<Journey, Refusal>) {
+        match Fate::of(run) {
+            Some(Fate::Delivered) => self.delivered = self.delivered.saturating_add(1),
+            Some(Fate::Dropped) => self.dropped = self.dropped.saturating_add(1),
+            Some(Fate::Refused) => self.refused = self.refused.saturating_add(1),
+            None => {}
         }
-    }
-    wrong(out, kind, i)
-}
-
-// ---- the tally is one number: 18 bits for the runs delivered, 18 for those dropped, 18 for those refused, and then the most hops
-
-const ONE_DROPPED: u64 = 1 << 18;
-
-const ONE_REFUSED: u64 = 1 << 36;
-
-const ONE_HOP: u64 = 1 << 54;
-
-fn one_more(word: u64) -> u64 {
-    match how(word) {
-        DELIVERED => 1,
-        DROPPED => ONE_DROPPED,
-        REFUSED => ONE_REFUSED,
-        _ => 0,
+        self.longest = self.longest.max(hops(run));
     }
 }
 
-pub fn counted(tally: u64, word: u64) -> u64 {
-    let sum = wrapping_add_u64(tally, one_more(word));
-    let hops = (word >> 8) & 255;
-    if sum / ONE_HOP < hops {
-        (hops << 54) | (sum % ONE_HOP)
-    } else {
-        sum
+impl fmt::Display for Tally {
+    fn fmt<W: fmt::Write>(&self, f: &mut fmt::Formatter<W>) -> fmt::Result {
+        write!(
+            f,
+            "{} delivered, {} dropped, {} refused, longest {} hops",
+            self.delivered, self.dropped, self.refused, self.longest
+        )
     }
-}
-
-pub fn shown<W: Write>(out: &mut W, tally: u64) -> io::Result<()> {
-    show::put(out, b':')?;
-    show::next(out, tally % ONE_DROPPED)?;
-    show::say(out, show::DELIVERED)?;
-    show::put(out, b',')?;
-    show::next(out, tally % ONE_REFUSED / ONE_DROPPED)?;
-    show::say(out, show::DROPPED)?;
-    show::put(out, b',')?;
-    show::next(out, tally % ONE_HOP / ONE_REFUSED)?;
-    show::say(out, show::REFUSED)?;
-    show::say(out, show::LONGEST)?;
-    show::next(out, tally / ONE_HOP)?;
-    show::say(out, show::HOPS)?;
-    show::put(out, b'\n')
 }

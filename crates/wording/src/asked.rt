@@ -1,127 +1,181 @@
-// What a case asks. Word 0 is the entry's name, word 1 the file's; the numbers that the entry takes begin at word 2.
-ghost use Rattle.std.specs.Prelude.{◌≤◌};
+// What a case asks. Word 0 is the entry's name, word 1 the file's; then the numbers that the entry takes, and the changes.
+use crate::{Length, Words, letters};
+use std::fmt;
 
-use crate::{NONE, least, name, number};
-use std::num::wrapping_add_usize;
+// Room for ends, homes or a trail; for weights; for a file; for tables or a text.
+pub const LIST: usize = 256;
 
-// The letters of the words: take, sweep, report, reported, read, write, build, tables, run and step are entries; what has failed is
-// nothing, link or node.
-pub const TAKE: u64 = 0x74616b65;
+pub const WEIGHTS: usize = 8192;
 
-pub const SWEEP: u64 = 0x7377656570;
+pub const FILE: usize = 16384;
 
-pub const REPORT: u64 = 0x7265706f7274;
+pub const TABLES: usize = 65536;
 
-pub const REPORTED: u64 = 0x7265706f72746564;
-
-pub const READ: u64 = 0x72656164;
-
-pub const WRITE: u64 = 0x7772697465;
-
-pub const BUILD: u64 = 0x6275696c64;
-
-pub const TABLES: u64 = 0x7461626c6573;
-
-pub const RUN: u64 = 0x72756e;
-
-pub const STEP: u64 = 0x73746570;
-
-const NOTHING: u64 = 0x6e6f7468696e67;
-
-const LINK: u64 = 0x6c696e6b;
-
-const NODE: u64 = 0x6e6f6465;
-
-// Number i, of which `ranges` has seen to it that it is not larger.
-// Rules out: more than the most; a number as it stands, whatever it is.
-pub fn up_to(words: &[u8], i: usize, most: usize) -> usize
-    ensures { result ≤ most }
-{
-    least(number(words, i), most)
+// What has failed: nothing, or a link or node by its number.
+#[derive(Clone, Copy)]
+pub enum Down {
+    Nothing,
+    Link(u16),
+    Node(u16),
 }
 
-// ---- run FILE SOURCE DESTINATION FAILURE, and then TABLES TRAIL or nothing; step FILE PLACE DESTINATION FAILURE TOPOLOGY TABLES ENTRY
+impl Down {
+    // `nothing`, `link L` or `node V`.
+    fn parse(words: &mut Words<'_>) -> Option<Down> {
+        match letters(words.next()?) {
+            b"nothing" => Some(Down::Nothing),
+            b"link" => Some(Down::Link(words.number()?)),
+            b"node" => Some(Down::Node(words.number()?)),
+            _ => None,
+        }
+    }
 
-// The failure as the library counts: 0 nothing, 1 a link, 2 a node; 3 is none of them.
-pub fn kind(words: &[u8]) -> u8 {
-    match name(words, 4) {
-        NOTHING => 0,
-        LINK => 1,
-        NODE => 2,
-        _ => 3,
+    // Its kind and number, as C counts them.
+    pub fn numbers(self) -> (u8, u16) {
+        match self {
+            Down::Nothing => (0, 0),
+            Down::Link(l) => (1, l),
+            Down::Node(v) => (2, v),
+        }
     }
 }
 
-// The failed link or node by its number.
-pub fn failed(words: &[u8], kind: u8) -> usize {
-    match kind {
-        0 => 0,
-        3 => NONE,
-        _ => number(words, 5),
+impl fmt::Display for Down {
+    fn fmt<W: fmt::Write>(&self, f: &mut fmt::Formatter<W>) -> fmt::Result {
+        match *self {
+            Down::Nothing => write!(f, "nothing 0"),
+            Down::Link(l) => write!(f, "link {l}"),
+            Down::Node(v) => write!(f, "node {v}"),
+        }
     }
 }
 
-// The word after the failure.
-pub fn after(kind: u8) -> usize {
-    match kind {
-        0 => 5,
-        _ => 6,
+// Where a packet starts, or stands; where it goes; and what has failed.
+#[derive(Clone, Copy)]
+pub struct Trip {
+    pub from: u8,
+    pub to: u8,
+    pub down: Down,
+}
+
+impl Trip {
+    // `FROM TO FAILURE`.
+    fn parse(words: &mut Words<'_>) -> Option<Trip> {
+        Some(Trip {
+            from: words.byte()?,
+            to: words.byte()?,
+            down: Down::parse(words)?,
+        })
     }
 }
 
-fn run_words(words: &[u8]) -> usize {
-    let next = after(kind(words));
-    match number(words, next) {
-        0..=65535 => wrapping_add_usize(next, 2),
-        _ => next,
+// The lengths of the lists that are read into.
+#[derive(Clone, Copy)]
+pub struct Lists {
+    pub a: Length<LIST>,
+    pub b: Length<LIST>,
+    pub weights: Length<WEIGHTS>,
+    pub homes: Length<LIST>,
+    pub rows: Length<WEIGHTS>,
+}
+
+impl Lists {
+    // `A B WEIGHTS HOMES ROWS`.
+    fn parse(words: &mut Words<'_>) -> Option<Lists> {
+        Some(Lists {
+            a: words.length()?,
+            b: words.length()?,
+            weights: words.length()?,
+            homes: words.length()?,
+            rows: words.length()?,
+        })
     }
 }
 
-// ---- all entries
+// The lent tables of a step, each entry the same.
+#[derive(Clone, Copy)]
+pub struct Tables {
+    pub room: Length<TABLES>,
+    pub entry: u8,
+}
 
-// How many words the entry takes, its name and the file's among them. What follows are changes.
-pub fn own_words(words: &[u8]) -> usize {
-    match name(words, 0) {
-        TAKE | SWEEP | REPORT => 2,
-        REPORTED | WRITE | TABLES => 3,
-        BUILD => 4,
-        READ => 7,
-        RUN => run_words(words),
-        STEP => wrapping_add_usize(after(kind(words)), 3),
-        _ => NONE,
+// What the file goes into, and with which numbers.
+#[derive(Clone, Copy)]
+pub enum Entry {
+    Take,
+    Sweep,
+    Report,
+    Reported(Length<TABLES>),
+    Read(Lists),
+    Write(Length<FILE>),
+    Build(u8, Length<FILE>),
+    Tables(Length<TABLES>),
+    // A room that is not told is as long as there is.
+    Run(Trip, Option<u16>, Option<u16>),
+    // The topology that the packet is in stands before the tables.
+    Step(Trip, u8, Tables),
+}
+
+// `SOURCE DESTINATION FAILURE`, and then `TABLES TRAIL` or nothing. What stands where the trail's length would is taken for it, even
+// where no tables' length stands before it, and then may be a part of a change too.
+fn parse_run(words: &mut Words<'_>) -> Option<Entry> {
+    let trip = Trip::parse(words)?;
+    let mut rest = *words;
+    let tables = rest.number();
+    let trail = rest.number();
+    if tables.is_some() {
+        *words = rest;
+    }
+    Some(Entry::Run(trip, tables, trail))
+}
+
+// `PLACE DESTINATION FAILURE TOPOLOGY TABLES ENTRY`.
+fn parse_step(words: &mut Words<'_>) -> Option<Entry> {
+    let trip = Trip::parse(words)?;
+    let topology = words.byte()?;
+    let tables = Tables {
+        room: words.length()?,
+        entry: words.byte()?,
+    };
+    Some(Entry::Step(trip, topology, tables))
+}
+
+impl Entry {
+    fn parse(name: &[u8], words: &mut Words<'_>) -> Option<Entry> {
+        match letters(name) {
+            b"take" => Some(Entry::Take),
+            b"sweep" => Some(Entry::Sweep),
+            b"report" => Some(Entry::Report),
+            b"reported" => Some(Entry::Reported(words.length()?)),
+            b"read" => Some(Entry::Read(Lists::parse(words)?)),
+            b"write" => Some(Entry::Write(words.length()?)),
+            b"build" => Some(Entry::Build(words.byte()?, words.length()?)),
+            b"tables" => Some(Entry::Tables(words.length()?)),
+            b"run" => parse_run(words),
+            b"step" => parse_step(words),
+            _ => None,
+        }
     }
 }
 
-fn either(words: &[u8], i: usize, j: usize) -> usize {
-    number(words, i) | number(words, j)
+// A case: the entry, the name of its file, and the changes.
+#[derive(Clone, Copy)]
+pub struct Case<'a> {
+    pub entry: Entry,
+    pub file: &'a [u8],
+    pub changes: Words<'a>,
 }
 
-// The numbers of a step after its failure.
-fn step_ranges(words: &[u8]) -> usize {
-    let next = after(kind(words));
-    let entry = wrapping_add_usize(next, 2);
-    (either(words, next, entry) << 8) | number(words, wrapping_add_usize(next, 1))
-}
-
-// Below NONE exactly where every number that the entry takes is given and fits its room: a number fits 8 bits where it is below NONE
-// after a shift by 8, and so on, and several are where their `|` is.
-fn ranges(words: &[u8]) -> usize {
-    match name(words, 0) {
-        BUILD => (number(words, 2) << 8) | (number(words, 3) << 2),
-        READ => ((either(words, 2, 3) | number(words, 5)) << 8) | (either(words, 4, 6) << 3),
-        REPORTED | TABLES => number(words, 2),
-        WRITE => number(words, 2) << 2,
-        RUN => (either(words, 2, 3) << 8) | failed(words, kind(words)),
-        STEP => (either(words, 2, 3) << 8) | failed(words, kind(words)) | step_ranges(words),
-        _ => 0,
-    }
-}
-
-// The entry's name, or 0 where the case is not understood; `long` is its file's length, or NONE.
-pub fn entry(words: &[u8], long: usize) -> u64 {
-    if (ranges(words) | long) < NONE {
-        name(words, 0)
-    } else {
-        0
+impl<'a> Case<'a> {
+    pub fn parse(text: &'a [u8]) -> Option<Case<'a>> {
+        let mut words = Words::of(text);
+        let name = words.next()?;
+        let file = words.next()?;
+        let entry = Entry::parse(name, &mut words)?;
+        Some(Case {
+            entry,
+            file,
+            changes: words,
+        })
     }
 }

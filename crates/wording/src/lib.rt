@@ -1,106 +1,95 @@
-// What a case is written in: text by its words and numbers. Nothing here knows the network: the
-// program `cases` does. Every function can be asked anything: what is not there is empty, 0 or NONE. So none promises more than
-// that it is safe and ends, but for the bounds that a room's parts need.
+// What a case is written in: its words and numbers, what it asks, and the changes that it makes to its file. Nothing here knows the
+// network: the program `cases` does. Every function can be asked anything: what is not understood is None. So none promises more than
+// that it is safe and ends, but that a length is less than its room's.
 #![tactic(auto)]
 
 pub mod asked; // asked.rt: what a case asks
 pub mod change; // change.rt: the changes that a case makes to its file
 
-ghost use Rattle.std.specs.Prelude.{◌≤◌};
+ghost use Rattle.std.specs.Prelude.{◌<◌, length};
+ghost use Rattle.std.specs.Iterator.{at_most};
 
-pub use slices::entry;
-use std::num::wrapping_add_usize;
+// ---- letters and numbers
 
-// Stands for what is no number from 0 to 65535.
-pub const NONE: usize = 65536;
-
-// The lesser of two.
-// Rules out: the greater of two; a, where b is less.
-pub fn least(a: usize, b: usize) -> usize
-    ensures { result ≤ b }
-{
-    if a < b { a } else { b }
+// The letters that a word is told by: its last eight, and of these none of the zero bytes in front. No word that is looked for has more.
+pub fn letters(word: &[u8]) -> &[u8] {
+    let last = &word[word.len().saturating_sub(8)..];
+    let zeros = last.iter().take_while(|letter| **letter == 0).count();
+    last.get(zeros..).unwrap_or(&[])
 }
 
-// ---- parts of a text
-
-// The bytes from start on and before end, as far as the text has them.
-pub fn part(text: &[u8], start: usize, end: usize) -> &[u8] {
-    let last = least(end, text.len());
-    let first = least(start, last);
-    &text[first..last]
+// The number that one more digit makes. A zero byte is passed over.
+fn more(value: u16, digit: u8) -> Option<u16> {
+    match digit {
+        0 => Some(value),
+        b'0'..=b'9' => value.checked_mul(10)?.checked_add(u16::from(digit - b'0')),
+        _ => None,
+    }
 }
 
-// Where mark number i stands, or the text's end.
-fn place(text: &[u8], mark: u8, i: usize) -> usize {
-    let mut left = i;
-    let mut at = 0;
-    while at < text.len() {
-        if entry(text, at) == mark {
-            if left == 0 {
-                return at;
-            }
-            left -= 1;
+// The number from 0 to 65535 that a word writes with one to five digits.
+pub fn number(word: &[u8]) -> Option<u16> {
+    match letters(word) {
+        [] | [.., 0] | [_, _, _, _, _, _, ..] => None,
+        digits => digits
+            .iter()
+            .try_fold(0, |value, digit| more(value, *digit)),
+    }
+}
+
+// How much of a room is lent: less than N entries.
+#[derive(Clone, Copy)]
+pub struct Length<const N: usize> {
+    pub entries: usize,
+    ghost fits: { entries < N },
+}
+
+// ---- words
+
+// The words of a text that are left. Each has one space before it; two spaces have an empty word between them.
+#[derive(Clone, Copy)]
+pub struct Words<'a> {
+    text: &'a [u8],
+}
+
+impl<'a> Iterator for Words<'a> {
+    type Item = &'a [u8];
+
+    ghost remaining = { λ words. at_most (length words.text.now) };
+
+    fn next(&mut self) -> Option<&'a [u8]> {
+        let space = self.text.iter().position(|letter| *letter == b' ')?;
+        let rest = &self.text[space + 1..];
+        let long = rest.iter().take_while(|letter| **letter != b' ').count();
+        let (word, text) = rest.split_at(long);
+        self.text = text;
+        Some(word)
+    }
+}
+
+impl<'a> Words<'a> {
+    // The words of a text, which begin at its first space.
+    pub fn of(text: &'a [u8]) -> Words<'a> {
+        Words { text }
+    }
+
+    // The next word as a number.
+    pub fn number(&mut self) -> Option<u16> {
+        number(self.next()?)
+    }
+
+    // The next word as a number from 0 to 255.
+    pub fn byte(&mut self) -> Option<u8> {
+        u8::try_from(self.number()?).ok()
+    }
+
+    // The next word as a length in a room of N entries.
+    pub fn length<const N: usize>(&mut self) -> Option<Length<N>> {
+        let entries = usize::from(self.number()?);
+        if entries < N {
+            Some(Length { entries })
+        } else {
+            None
         }
-        at += 1;
     }
-    at
-}
-
-// What stands between mark number i and the next.
-pub fn piece(text: &[u8], mark: u8, i: usize) -> &[u8] {
-    let start = wrapping_add_usize(place(text, mark, i), 1);
-    part(text, start, place(text, mark, wrapping_add_usize(i, 1)))
-}
-
-// ---- words: each has one space before it
-
-pub fn word(text: &[u8], i: usize) -> &[u8] {
-    piece(text, b' ', i)
-}
-
-pub fn has_word(text: &[u8], i: usize) -> bool {
-    place(text, b' ', i) < text.len()
-}
-
-fn letters(text: &[u8]) -> u64 {
-    let mut sum: u64 = 0;
-    let mut i = 0;
-    while i < text.len() {
-        sum = (sum << 8) | entry(text, i) as u64;
-        i += 1;
-    }
-    sum
-}
-
-// The letters of word i as one number, 8 bits each, so that a word can be told by a `match`. No word that is looked for has more
-// than seven.
-pub fn name(text: &[u8], i: usize) -> u64 {
-    letters(word(text, i))
-}
-
-// ---- numbers
-
-// The number that one more digit makes.
-fn digit(value: usize, letter: u64) -> usize {
-    match letter {
-        48..=57 => least(10 * least(value, NONE) + (letter - 48) as usize, NONE),
-        _ => NONE,
-    }
-}
-
-// The same, where there may be no such letter.
-fn lead(value: usize, letter: u64) -> usize {
-    match letter {
-        0 => value,
-        _ => digit(value, letter),
-    }
-}
-
-// The decimal number of up to five digits that word i writes, or NONE.
-pub fn number(text: &[u8], i: usize) -> usize {
-    let w = name(text, i);
-    let thousands = lead(lead(0, w >> 32), (w >> 24) & 255);
-    let tens = lead(lead(thousands, (w >> 16) & 255), (w >> 8) & 255);
-    digit(tens, w & 255)
 }
