@@ -115,6 +115,11 @@ pub number_of : (old new : Pen) (x : ℕ) → Writes old (digits 19 x) number_ro
 unfolding decimal
 number_of old new x w = w
 
+pub short_number : (old new : Pen) (x : ℕ) → x < 10 → Writes old ((48 + x) ∷ []) 1 new → Writes old (decimal x) number_room new
+short_number old new x h w =
+    number_of old new x
+    (writes_as old new number_room ((48 + x) ∷ []) (digits 19 x) (sym (digits_one 19 x h)) (writes_few old new 1 number_room ((48 + x) ∷ []) (omega arith) w))
+
 pub labelled_of : (old mid new : Pen) (label : List ℕ) (x : ℕ) → length label ≤ label_room → Writes old label (length label) mid → Writes mid (decimal x) number_room new
     → Writes old (label ++ decimal x) labelled_room new
 labelled_of old mid new label x h v w = writes_then old mid new (length label) number_room labelled_room label (decimal x) v w (omega arith)
@@ -157,4 +162,4 @@ not_below old p new x d f b n e w = go x (sym (ap (λ (z : ℤ). lt_z z (pos 0))
 pub one_writing : (old bytes new new' : List ℕ) (at most r r' : ℕ) → Wrote old at bytes most r new → Wrote old at bytes most r' new' → (r ≡ r') × (new ≡ new')
 one_writing old bytes new new' at most r r' v w = (v.on ∙ sym w.on, v.is ∙ sym w.is)
 
-pub ruleset texts = (writes_none, copied_more, copied_all, one_digit, last_digit, more_digits, number_of, labelled_of, field_of, below_zero, not_below, letter_none, letter_t, letter_s, letter_d)
+pub ruleset texts = (writes_none, copied_more, copied_all, one_digit, last_digit, more_digits, number_of, short_number, labelled_of, field_of, below_zero, not_below, letter_none, letter_t, letter_s, letter_d)

@@ -58,7 +58,12 @@ impl Pen<'_> {
         requires { self.old.at < 16777216 }
         ensures { Writes self.old (decimal x) number_room self.new }
     {
-        self.digits(x, 19);
+        // most numbers of a report are short
+        if x < 10 {
+            self.put(b'0' + x as u8);
+        } else {
+            self.digits(x, 19);
+        }
     }
 
     // A number in decimal, a minus sign before it where it is below zero.
