@@ -151,9 +151,9 @@ fn write_lists<W: Write>(
 // Counts outside their ranges have no lists here.
 fn write<W: Write>(out: &mut W, room: Length<FILE>, file: &[u8]) -> io::Result<()> {
     let net = header(file);
-    match counts(net, 0) {
-        0 => write_lists(out, net, room, file),
-        _ => show::unclear(out),
+    match counts(net) {
+        Ok(()) => write_lists(out, net, room, file),
+        Err(_) => show::unclear(out),
     }
 }
 
