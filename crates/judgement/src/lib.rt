@@ -5,7 +5,7 @@
 ghost use Rattle.std.specs.Prelude.{◌≡◌, ◌≤◌, ◌<◌, length};
 ghost use Rattle.rules.specs.Basics.{need, all};
 ghost use Rattle.rules.specs.Limits.{link_place, home_place, row_place, file_length};
-ghost use Rattle.rules.specs.File.{header_of};
+ghost use Rattle.rules.specs.File.{header_of, home_topology};
 ghost use Rattle.rules.specs.Judgement.{in_turn, header_number, link_number, home_number, row_weight_fits, row_number, records, judge};
 ghost use Rattle.rules.specs.Verdict.{broken, says};
 ghost use Rattle.judgement.specs.Turns.{judged};
@@ -16,129 +16,146 @@ use layout::{
 use rules::{Network, Rule, Verdict, at};
 use slices::entry;
 
-// ---- the header
-
-// The header's rule.
-#[tactic(auto, using(crate::proofs::InTurn::heading))]
-fn header_rule(file: &[u8], net: Network) -> Result<(), Rule>
-    requires { net ≡ header_of file.now }
-    ensures { broken result ≡ header_number file.now }
-{
-    let long = file.len();
-    recordrules::header(long, entry(file, 0), entry(file, 1))?;
-    recordrules::counts(net)?;
-    recordrules::length(long, net.file_length())
+// A file, and the counts that its header gives.
+#[derive(Clone, Copy)]
+struct Counted<'a> {
+    bytes: &'a [u8],
+    net: Network,
+    ghost header: { net ≡ header_of bytes.now },
 }
 
-// ---- links
+impl Counted<'_> {
+    // ---- the header
 
-// The link records in turn.
-#[tactic(auto, using(crate::proofs::InTurn::link_turns))]
-fn links(file: &[u8], net: Network) -> Verdict
-    requires { link_place net.m ≤ length file.now }
-    ensures { says result ≡ in_turn (judged (link_number file.now net) link_place) net.m }
-{
-    let m = net.m as usize;
-    let mut last = 0;
-    for l in 0..m {
-        let place = link_place(l);
-        let link = link_fields(file, l);
-        let rank = recordrules::rank(link.a, link.b);
-        let judged = recordrules::link(
-            net,
-            link.x,
-            link.y,
-            last,
-            rank,
-            link.a,
-            link.b,
-            link.weight,
-        );
-        at(place, judged)?;
-        last = rank;
+    // The header's rule.
+    #[tactic(auto, using(crate::proofs::InTurn::heading))]
+    fn header_rule(&self) -> Result<(), Rule>
+        ensures { broken result ≡ header_number self.now.bytes.now }
+    {
+        let long = self.bytes.len();
+        recordrules::header(long, entry(self.bytes, 0), entry(self.bytes, 1))?;
+        recordrules::counts(self.net)?;
+        recordrules::length(long, self.net.file_length())
     }
-    Ok(())
-}
 
-// ---- homes
+    // ---- links
 
-// The first home records in turn.
-#[tactic(auto, using(crate::proofs::InTurn::home_turns, rules::proofs::Ground::Choices::turn_none))]
-fn homes(file: &[u8], net: Network, count: usize) -> Verdict
-    requires { count < 256 }
-    ensures { says result ≡ in_turn (judged (home_number file.now net) (home_place net)) count }
-{
-    for v in 0..count {
-        let place = home_place(net, v);
-        let judged = recordrules::home(
-            net,
-            v,
-            entry(file, place),
-            entry(file, place + 1),
-            entry(file, place + 2),
-            home_topology(file, net, v),
-        );
-        at(place, judged)?;
+    // The link records in turn.
+    #[tactic(auto, using(crate::proofs::InTurn::link_turns))]
+    fn links(&self) -> Verdict
+        requires { link_place self.now.net.m ≤ length self.now.bytes.now }
+        ensures { says result ≡ in_turn (judged (link_number self.now.bytes.now self.now.net) link_place) self.now.net.m }
+    {
+        let m = self.net.m as usize;
+        let mut last = 0;
+        for l in 0..m {
+            let place = link_place(l);
+            let link = link_fields(self.bytes, l);
+            let rank = recordrules::rank(link.a, link.b);
+            let judged = recordrules::link(
+                self.net,
+                link.x,
+                link.y,
+                last,
+                rank,
+                link.a,
+                link.b,
+                link.weight,
+            );
+            at(place, judged)?;
+            last = rank;
+        }
+        Ok(())
     }
-    Ok(())
-}
 
-// ---- rows
+    // ---- homes
 
-// The weights of the row of topology j + 1: each fits its link's class.
-#[tactic(auto, using(crate::proofs::InTurn::fitting))]
-fn weights(file: &[u8], net: Network, j: usize) -> Result<(), Rule>
-    requires { j < 256 }
-    ensures { broken result ≡ need (all (row_weight_fits file.now net j) net.m) 5 0 }
-{
-    let m = net.m as usize;
-    for l in 0..m {
-        let home_a = home_topology(file, net, end_a(file, l) as usize);
-        let home_b = home_topology(file, net, end_b(file, l) as usize);
-        recordrules::weight(net.wmax, j + 1, home_a, home_b, row_weight(file, net, j, l))?;
+    // The first home records in turn.
+    #[tactic(auto, using(crate::proofs::InTurn::home_turns, rules::proofs::Ground::Choices::turn_none))]
+    fn homes(&self, count: usize) -> Verdict
+        requires { count < 256 }
+        ensures { says result ≡ in_turn (judged (home_number self.now.bytes.now self.now.net) (home_place self.now.net)) count }
+    {
+        for v in 0..count {
+            let place = home_place(self.net, v);
+            let judged = recordrules::home(
+                self.net,
+                v,
+                entry(self.bytes, place),
+                entry(self.bytes, place + 1),
+                entry(self.bytes, place + 2),
+                home_topology(self.bytes, self.net, v),
+            );
+            at(place, judged)?;
+        }
+        Ok(())
     }
-    Ok(())
-}
 
-// The rule of the row of topology j + 1: its start before its weights.
-#[tactic(auto, using(crate::proofs::InTurn::row_starts))]
-fn row(file: &[u8], net: Network, j: usize, place: usize) -> Result<(), Rule>
-    requires { (j < 256) × ((place ≡ row_place net j) × (place < 536870912)) }
-    ensures { broken result ≡ row_number file.now net j }
-{
-    recordrules::row(
-        j + 1,
-        entry(file, place),
-        entry(file, place + 1),
-        entry(file, place + 2),
-    )?;
-    weights(file, net, j)
-}
+    // ---- rows
 
-// The rows in turn.
-#[tactic(auto, using(crate::proofs::InTurn::row_turns, rules::proofs::Ground::Choices::turn_none))]
-fn rows(file: &[u8], net: Network) -> Verdict
-    ensures { says result ≡ in_turn (judged (row_number file.now net) (row_place net)) net.k }
-{
-    let k = net.k as usize;
-    for j in 0..k {
-        let place = row_place(net, j);
-        at(place, row(file, net, j, place))?;
+    // The home of one end of a link.
+    fn home_at(&self, end: u8) -> u8
+        ensures { result ≡ home_topology self.now.bytes.now self.now.net end }
+    {
+        home_topology(self.bytes, self.net, usize::from(end))
     }
-    Ok(())
-}
 
-// ---- the judgement
+    // The weights of the row of topology j + 1: each fits its link's class.
+    #[tactic(auto, using(crate::proofs::InTurn::fitting))]
+    fn weights(&self, j: usize) -> Result<(), Rule>
+        requires { j < 256 }
+        ensures { broken result ≡ need (all (row_weight_fits self.now.bytes.now self.now.net j) self.now.net.m) 5 0 }
+    {
+        let m = self.net.m as usize;
+        for l in 0..m {
+            let home_a = self.home_at(end_a(self.bytes, l));
+            let home_b = self.home_at(end_b(self.bytes, l));
+            let weight = row_weight(self.bytes, self.net, j, l);
+            recordrules::weight(self.net.wmax, j + 1, home_a, home_b, weight)?;
+        }
+        Ok(())
+    }
 
-// Each record after the header in turn, in a file of the length that its header says.
-#[tactic(auto, using(crate::proofs::InTurn::judging))]
-fn records(file: &[u8], net: Network) -> Verdict
-    requires { length file.now ≡ file_length net }
-    ensures { says result ≡ records file.now net }
-{
-    links(file, net)?;
-    homes(file, net, net.home_records())?;
-    rows(file, net)
+    // The rule of the row of topology j + 1: its start before its weights.
+    #[tactic(auto, using(crate::proofs::InTurn::row_starts))]
+    fn row(&self, j: usize, place: usize) -> Result<(), Rule>
+        requires { (j < 256) × ((place ≡ row_place self.now.net j) × (place < 536870912)) }
+        ensures { broken result ≡ row_number self.now.bytes.now self.now.net j }
+    {
+        recordrules::row(
+            j + 1,
+            entry(self.bytes, place),
+            entry(self.bytes, place + 1),
+            entry(self.bytes, place + 2),
+        )?;
+        self.weights(j)
+    }
+
+    // The rows in turn.
+    #[tactic(auto, using(crate::proofs::InTurn::row_turns, rules::proofs::Ground::Choices::turn_none))]
+    fn rows(&self) -> Verdict
+        ensures { says result ≡ in_turn (judged (row_number self.now.bytes.now self.now.net) (row_place self.now.net)) self.now.net.k }
+    {
+        let k = self.net.k as usize;
+        for j in 0..k {
+            let place = row_place(self.net, j);
+            at(place, self.row(j, place))?;
+        }
+        Ok(())
+    }
+
+    // ---- the judgement
+
+    // Each record after the header in turn, in a file of the length that its header says.
+    #[tactic(auto, using(crate::proofs::InTurn::judging))]
+    fn records(&self) -> Verdict
+        requires { length self.now.bytes.now ≡ file_length self.now.net }
+        ensures { says result ≡ records self.now.bytes.now self.now.net }
+    {
+        self.links()?;
+        self.homes(self.net.home_records())?;
+        self.rows()
+    }
 }
 
 // Whether these bytes keep the rules of a file, and if not, the first rule of 01's order that they break and where.
@@ -148,7 +165,10 @@ fn records(file: &[u8], net: Network) -> Verdict
 pub fn judge(file: &[u8]) -> Verdict
     ensures { says result ≡ judge file.now }
 {
-    let net = header(file);
-    header_rule(file, net)?;
-    records(file, net)
+    let counted = Counted {
+        bytes: file,
+        net: header(file),
+    };
+    counted.header_rule()?;
+    counted.records()
 }

@@ -1,5 +1,5 @@
 use Rattle.judgement.proofs.InTurn.{links_none, links_more}
-use Rattle.judgement.proofs.links.Goals as goal
+use Rattle.judgement.proofs.Counted.links.Goals as goal
 
 pub loop-l-init : goal.loop-l-init
 loop-l-init c = links_none _ _
