@@ -24,22 +24,6 @@ use rules::{Network, Refusal, Rule};
 
 // ---- the answer
 
-// The set with these homes, written where the file has room for it.
-#[tactic(auto, using(rules::proofs::Entries::Answering::promising, crate::proofs::Answers::room_is), unfolding(rules::specs::Answers::tells))]
-fn finish(graph: &[u8], net: Network, homes: &[u8], file: &mut [u8]) -> Result<usize, Refusal>
-    requires judged { judge graph.now ≡ Accepted }
-    requires its_header { net ≡ header_of graph.now }
-    requires homes_len { length homes.now ≡ net.n }
-    ensures { FilledIn graph.now homes.now file.old result file.new }
-{
-    let k = highest(homes);
-    let set = Network::header(net.n, net.m, k, net.wmax);
-    let long = set.file_length();
-    need_room(long, file.len())?;
-    put_set(graph, homes, file, set);
-    Ok(long)
-}
-
 // Why first fit did not place every node: 9 where some one node holds the others together, else 10.
 #[tactic(auto, using(crate::proofs::Answers::no_one, crate::proofs::Answers::some_one))]
 fn unplaced(nb: &[u32], n: u8) -> Rule
@@ -52,58 +36,72 @@ fn unplaced(nb: &[u32], n: u8) -> Rule
     Rule::CutNode
 }
 
-// First fit, then the file. Where every node is placed no one node holds the others together, so 9 is asked only where one is not.
-fn fit(
-    graph: &[u8],
+// What a set is built from: a graph that is accepted, its header, its neighbour words, and a cap that is.
+#[derive(Drop)]
+struct Plan<'a> {
+    graph: &'a [u8],
     net: Network,
+    nb: [u32; Network::MOST_NODES],
     cap: u8,
-    nb: &[u32],
-    homes: &mut [u8],
-    file: &mut [u8],
-) -> Result<usize, Refusal>
-    requires judged { judge graph.now ≡ Accepted }
-    requires its_header { net ≡ header_of graph.now }
-    requires cap_bound { cap ≤ 32 }
-    requires its_words { nb.now ≡ neighbour_words graph.now net.m }
-    requires no_homes { homes.old ≡ replicate net.n 0 }
-    ensures { BuiltIn graph.now cap file.old result file.new }
-{
-    let placed = first_fit(nb, net.n, cap, homes);
-    if placed < net.n {
-        return Err(unplaced(nb, net.n).at(0));
-    }
-    finish(graph, net, homes, file)
+    ghost accepted: { judge graph.now ≡ Accepted },
+    ghost header: { net ≡ header_of graph.now },
+    ghost words: { nb ≡ neighbour_words graph.now net.m },
+    ghost allowed: { cap ≤ 32 },
 }
 
-// First fit in room of its own, one home for each node.
-fn fit_nodes(
-    graph: &[u8],
-    net: Network,
-    cap: u8,
-    nb: &[u32],
-    file: &mut [u8],
-) -> Result<usize, Refusal>
-    requires judged { judge graph.now ≡ Accepted }
-    requires its_header { net ≡ header_of graph.now }
-    requires n_bound { net.n ≤ 32 }
-    requires cap_bound { cap ≤ 32 }
-    requires its_words { nb.now ≡ neighbour_words graph.now net.m }
-    ensures { BuiltIn graph.now cap file.old result file.new }
-{
-    let mut homes = [0u8; Network::MOST_NODES];
-    let n = net.n as usize;
-    fit(graph, net, cap, nb, &mut homes[..n], file)
+impl Plan<'_> {
+    // The set with these homes, written where the file has room for it.
+    #[tactic(auto, using(rules::proofs::Entries::Answering::promising, crate::proofs::Answers::room_is), unfolding(rules::specs::Answers::tells))]
+    fn finish(&self, homes: &[u8], file: &mut [u8]) -> Result<usize, Refusal>
+        requires { length homes.now ≡ self.now.net.n }
+        ensures { FilledIn self.now.graph.now homes.now file.old result file.new }
+    {
+        let k = highest(homes);
+        let set = Network::header(self.net.n, self.net.m, k, self.net.wmax);
+        let long = set.file_length();
+        need_room(long, file.len())?;
+        put_set(self.graph, homes, file, set);
+        Ok(long)
+    }
+
+    // First fit, then the file. Where every node is placed no one node holds the others together, so 9 is asked only where one is not.
+    fn fit(&self, homes: &mut [u8], file: &mut [u8]) -> Result<usize, Refusal>
+        requires { homes.old ≡ replicate self.now.net.n 0 }
+        ensures { BuiltIn self.now.graph.now self.now.cap file.old result file.new }
+    {
+        let n = self.net.n;
+        let placed = first_fit(&self.nb, n, self.cap, homes);
+        if placed < n {
+            return Err(unplaced(&self.nb, n).at(0));
+        }
+        self.finish(homes, file)
+    }
+
+    // First fit in room of its own, one home for each node.
+    fn fit_nodes(&self, file: &mut [u8]) -> Result<usize, Refusal>
+        ensures { BuiltIn self.now.graph.now self.now.cap file.old result file.new }
+    {
+        let mut homes = [0u8; Network::MOST_NODES];
+        let n = self.net.n as usize;
+        self.fit(&mut homes[..n], file)
+    }
 }
 
 // The set of a graph that is accepted, with a cap that is.
 fn build_graph(graph: &[u8], cap: u8, file: &mut [u8]) -> Result<usize, Refusal>
-    requires judged { judge graph.now ≡ Accepted }
-    requires cap_bound { cap ≤ 32 }
+    requires accepted { judge graph.now ≡ Accepted }
+    requires allowed { cap ≤ 32 }
     ensures { BuiltIn graph.now cap file.old result file.new }
 {
     let net = header(graph);
     let nb = neighbour_words(graph, net.m);
-    fit_nodes(graph, net, cap, &nb, file)
+    let plan = Plan {
+        graph,
+        net,
+        nb,
+        cap,
+    };
+    plan.fit_nodes(file)
 }
 
 // The entry: a set for a graph with at most so many topologies, into a lent file.

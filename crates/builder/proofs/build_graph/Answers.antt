@@ -1,8 +1,5 @@
-use Rattle.intake.proofs.Files.{ends_of, few_of}
+use Rattle.intake.proofs.Files.{ends_of}
 use Rattle.builder.proofs.build_graph.Goals as goal
 
 pub neighbour_words-nb-requires : goal.neighbour_words-nb-requires
 neighbour_words-nb-requires c = search ends_of
-
-pub fit_nodes-requires-clause-n_bound : goal.fit_nodes-requires-clause-n_bound
-fit_nodes-requires-clause-n_bound c = search few_of

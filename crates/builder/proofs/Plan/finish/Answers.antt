@@ -1,5 +1,5 @@
 use Rattle.builder.proofs.Answers.{links_in, no_room, room, room_there}
-use Rattle.builder.proofs.finish.Goals as goal
+use Rattle.builder.proofs.Plan.finish.Goals as goal
 
 pub put_set-requires-clause-links_in : goal.put_set-requires-clause-links_in
 put_set-requires-clause-links_in c = search links_in
