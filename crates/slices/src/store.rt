@@ -15,7 +15,8 @@ pub fn within<const N: usize>(to: &mut [u8], at: usize, new: [u8; N])
 }
 
 // Bytes at any place. One test does for all where the slice reaches that far.
-// Rules out: the bytes in another order; the last byte overwritten where the place is past the end.
+// Rules out: the bytes stored at the front whatever the place `stored_at_the_front`; the last byte overwritten where the place is past the
+// end.
 pub fn bytes<const N: usize>(to: &mut [u8], at: usize, new: [u8; N])
     requires { at + N < 2 ^ 64 }
     ensures { to.new ≡ put to.old at new.entry }
