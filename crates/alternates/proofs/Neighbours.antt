@@ -4,7 +4,7 @@ use native.Mathlib.Numerals.{add-one}
 use lib.Bits.{or_zero_r}
 use Rattle.std.proofs.lemmas.List.{set-get_or}
 use native.Mathlib.Omega.{arith}
-use mathlib.Core.Path.{◌≡◌, refl, sym, ap, subst, ◌∙◌}
+use mathlib.Core.Path.{◌≡◌, refl, sym, ap, ◌∙◌}
 use mathlib.Core.Bool.{Bool, true, false, ◌&&◌, ◌||◌}
 use mathlib.Core.Logic.{⊎_elim}
 use mathlib.Core.List.{List, []}
@@ -46,9 +46,6 @@ module _ (a b homes : List ℕ) (u l : ℕ) (near e : List Bool) (N : near ≡ o
   outlets_same same h =
       h ∙ rw (add-one, ← N) (sym (if_yes (eqb (get_or homes x 0) (get_or homes y 0)) near (set one x (get_or one x false || eqb y u)) (eq-eqb (get_or homes x 0) (get_or homes y 0) same)))
 
-pub outlets_done : (a b homes : List ℕ) (u l : ℕ) (near : List Bool) → near ≡ outlets_by a b homes u l → l ≤ length a → length a ≤ l → near ≡ outlets_by a b homes u (length a)
-outlets_done a b homes u l near N h g = let z : l ≡ length a = omega arith in subst (λ (k : ℕ). near ≡ outlets_by a b homes u k) z N
-
 -- ---- `stands_in`
 pub not_itself : (near : List Bool) (v w : ℕ) → w ≡ v → false ≡ eligible near v w
 unfolding eligible
@@ -80,9 +77,6 @@ module _ (near : List Bool) (d : List (List ℕ)) (v : ℕ) where
   unfolding least_of least
   least_same w best t ok B eo e et = et ∙ B ∙ rw (add-one, sym eo ∙ e)
 
-  pub least_done : (w best : ℕ) → best ≡ least_of near d v w → w ≤ length d → length d ≤ w → best ≡ least_of near d v (length d)
-  least_done w best B h g = let z : w ≡ length d = omega arith in subst (λ (k : ℕ). best ≡ least_of near d v k) z B
-
   pub word_none : (best : ℕ) → 0 ≡ near_word near d v best 0
   unfolding near_word
   word_none best = refl
@@ -102,9 +96,6 @@ module _ (near : List Bool) (d : List (List ℕ)) (v : ℕ) where
   pub word_same : (w best word t : ℕ) (ok : Bool) → word ≡ near_word near d v best w → ok ≡ eligible near v w → ok ≡ false → t ≡ word → t ≡ near_word near d v best (w + 1)
   unfolding near_word near_bit either
   word_same w best word t ok W eo e et = et ∙ W ∙ rw (add-one, sym eo ∙ e) (sym (or_zero_r (near_word near d v best w)))
-
-  pub word_done : (w best word : ℕ) → word ≡ near_word near d v best w → w ≤ length d → length d ≤ w → word ≡ near_word near d v best (length d)
-  word_done w best word W h g = let z : w ≡ length d = omega arith in subst (λ (k : ℕ). word ≡ near_word near d v best k) z W
 
   -- ---- `alternate`
   pub some_alternate : (best word s : ℕ) → get_or near v false ≡ true → best ≡ least_of near d v (length d) → word ≡ near_word near d v best (length d) → s ≡ lowest_in word
@@ -130,9 +121,6 @@ row_more near d r v s t R q e h few long =
           (λ (ne : w ≡ v → ⊥). get_or-set_other r v w s 0 ne ∙ R.is w (omega arith))
           (same? w v);
     }
-
-pub row_done : (near : List Bool) (d : List (List ℕ)) (r : List ℕ) (v : ℕ) → RowBy near d r v → length d ≤ v → RowBy near d r (length d)
-row_done near d r v R h = record { is = λ w g. R.is w (omega arith) }
 
 -- ---- `alternates_of`
 pub row_of : (a b homes : List ℕ) (d : List (List ℕ)) (u : ℕ) (near : List Bool) (r : List ℕ) → near ≡ outlets_by a b homes u (length a) → RowBy near d r (length d) → RowOf a b homes d u r

@@ -1,5 +1,5 @@
 -- Laws of one topology's tables, as the functions use them.
-use Prim.Native.Nat.{ℕ, suc, ◌*◌, ◌≤◌, ◌<◌}
+use Prim.Native.Nat.{ℕ, suc, ◌≤◌, ◌<◌}
 use native.Mathlib.Nat.{eq-or-lt_of_le, le_of_suc-le-suc}
 use native.Mathlib.Omega.{arith}
 use mathlib.Core.Path.{◌≡◌, sym, ap, subst, ◌∙◌}
@@ -14,7 +14,6 @@ use Rattle.rules.specs.Isolation.{home}
 use Rattle.rules.specs.Entries.Write.{set_with}
 use Rattle.rules.specs.Sets.{AcceptedSet}
 use Rattle.routes.specs.Listed.{listed}
-use Rattle.routes.specs.Lanes.{LowRows}
 use Rattle.routes.specs.Passes.{net_of, Wired, settled}
 use Rattle.routes.specs.Costs.{cost, row_of, HoldsRow, cost_at, Links, Distances}
 use Rattle.routes.proofs.Exact.{costs_wired, settled_low, settled_distances}
@@ -86,15 +85,6 @@ module _ (net : Network) (a b weights homes rows : List ℕ) (S : Set) (V : list
     pub ready_wired : Wired a b c (length d)
     ready_wired = measure_wired i hi c R.costs d rows_are
 
-    pub ready_low : LowRows d
-    ready_low = R.low
-
-    pub ready_words : (w : List (List ℕ)) → length w ≡ S.net.n → length w ≡ length d
-    ready_words w l = l ∙ sym rows_are
-
-    pub ready_square : (m : ℕ) → m ≡ S.net.n * S.net.n → m ≡ length d * length d
-    ready_square m e = rw rows_are e
-
     pub ready_homed : Homed a b homes (length d)
     unfolding home_records need
     ready_homed =
@@ -108,9 +98,6 @@ module _ (net : Network) (a b weights homes rows : List ℕ) (S : Set) (V : list
           a_in = W.a_in;
           b_in = W.b_in;
         })
-
-    pub ready_alternates : (alts : List (List ℕ)) → AlternatesBelow S i alts → length alts ≡ length d
-    ready_alternates alts B = B.long ∙ sym rows_are
 
     alternates_more : (alts e : List (List ℕ)) → AlternatesBelow S i alts → RowsTo S.a S.b S.homes i d (length d) alts e → AlternatesBelow S (suc i) e
     unfolding home

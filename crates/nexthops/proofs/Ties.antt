@@ -9,15 +9,14 @@ use mathlib.Core.List.{List, [], ◌++◌}
 use lib.ListN.{length, get_or, set, drop, take, replicate, length-set, length-replicate, get_or-replicate}
 use lib.Seq.{get_or-set_same, get_or-set_other, ext_get_or}
 use lib.Dec.{eqb}
-use borrow.Author.Count.{below_more, below_none}
 use borrow.Author.Tests.{eq-eqb, ne_eqb}
 use Rattle.rules.specs.Basics.{up_to, flat}
 use Rattle.rules.proofs.Ground.Choices.{if_yes, if_no}
 use Rattle.rules.proofs.Ground.Rows.{length_up_to, up_to_ext, flat_ext}
 use Rattle.routes.specs.Lanes.{column}
-use Rattle.routes.specs.Passes.{Net, net_of, Wired}
+use Rattle.routes.specs.Passes.{net_of, Wired}
 use Rattle.routes.proofs.Lanes.{column_at, column_long, column_set}
-use Rattle.routes.proofs.Filling.{fill_more, fill_done, start_more, rows_done}
+use Rattle.routes.proofs.Filling.{fill_more, start_more}
 use Rattle.words.specs.Word.{either, lowest_in, only}
 use Rattle.nexthops.specs.Ties.{tie_of, mark_lane, marked, mark, mark_both, mark_link, marks, Marked, MarkSpot, Worded, hop_of, hop_at, hops_of, tie_hop, tie_table}
 use Rattle.nexthops.proofs.Lowest.{hop_is}
@@ -39,9 +38,6 @@ mark_none c bit p q w = refl
 pub mark_more : (c bit t v k : ℕ) (p q w e : List ℕ) → e ≡ marked c bit p q t w → v ≡ tie_of (c + get_or q t 0) (get_or p t 0) bit → k ≡ either (get_or e t 0) v → set e t k ≡ marked c bit p q (t + 1) w
 unfolding marked mark_lane
 mark_more c bit t v k p q w e B ev ek = rw (ek, ev, B, add-one)
-
-pub mark_done : (c bit t : ℕ) (p q w e : List ℕ) → e ≡ marked c bit p q t w → t ≤ 32 → 32 ≤ t → e ≡ marked c bit p q 32 w
-mark_done c bit t p q w e B h g = let z : t ≡ 32 = omega arith in subst (λ (k : ℕ). e ≡ marked c bit p q k w) z B
 
 module _ (c bit : ℕ) (p q w : List ℕ) where
   marked_length : (k : ℕ) → length (marked c bit p q k w) ≡ length w
@@ -97,12 +93,6 @@ pub links_done : (a b c : List ℕ) (l n : ℕ) (d w e : List (List ℕ)) → Wi
 links_done a b c l n d w e F M h g = let z : l ≡ length a = omega (arith, F.c_long) in subst (λ (k : ℕ). Marked d w e (marks (net_of a b c) k)) z M
 
 -- ---- `words`
-pub clear_none : (w : List (List ℕ)) → (v : ℕ) → v < 0 → get_or w v [] ≡ replicate 32 0
-clear_none w = below_none (λ v. get_or w v [] ≡ replicate 32 0)
-
-pub clear_more : (w : List (List ℕ)) (n u : ℕ) → ((v : ℕ) → v < u → get_or w v [] ≡ replicate 32 0) → u < n → length w ≡ n → (v : ℕ) → v < u + 1 → get_or (set w u (replicate 32 0)) v [] ≡ replicate 32 0
-clear_more w n u all h l = below_more (λ v. get_or (set w u (replicate 32 0)) v [] ≡ replicate 32 0) u (λ v g. get_or-set_other w u v (replicate 32 0) [] (λ z. omega arith) ∙ all v g) (get_or-set_same w u (replicate 32 0) [] (omega arith))
-
 clear_column : (w : List (List ℕ)) (n t : ℕ) → ((v : ℕ) → v < n → get_or w v [] ≡ replicate 32 0) → length w ≡ n → t < 32 → column t w ≡ replicate n 0
 clear_column w n t all l h =
     ext_get_or 0 (column t w) (replicate n 0) (column_long t w ∙ l ∙ sym (length-replicate {A = ℕ} n 0))
@@ -130,9 +120,6 @@ pub lane_more : (w : List ℕ) (u : ℕ) (d e : List ℕ) (t v : ℕ) → e ≡ 
 unfolding hop_at
 lane_more w u d e t v q h l ev = fill_more (hop_at w u) d e t v q (omega arith) l ev
 
-pub lane_done : (w : List ℕ) (u : ℕ) (d e : List ℕ) (t : ℕ) → e ≡ up_to (hop_at w u) t ++ drop t d → length d ≤ t → t ≤ length d → e ≡ up_to (hop_at w u) (length d)
-lane_done w u d e t q h g = fill_done (hop_at w u) d e t (length d) q h g refl
-
 -- ---- `hop_rows`
 pub hops_more : (w : List (List ℕ)) (u j : ℕ) (out e y : List ℕ) → y ≡ up_to (hop_at (get_or w u []) u) j → j ≡ length w → e ≡ flat (hops_of w (length w)) u ++ drop (u * length w) out
     → take (u * length w) e ++ (y ++ drop (u * length w + length w - u * length w) (drop (u * length w) e)) ≡ flat (hops_of w (length w)) (u + 1) ++ drop ((u + 1) * length w) out
@@ -140,9 +127,6 @@ unfolding hops_of
 hops_more w u j out e y ey ej q =
     let n = length w in
     start_more (hops_of w n) n u out e y (λ i. length_up_to (hop_at (get_or w i []) i) n) q (ey ∙ rw ej)
-
-pub hops_done : (w : List (List ℕ)) (u : ℕ) (out e : List ℕ) → u ≤ length w → length w ≤ u → length out ≡ length w * length w → e ≡ flat (hops_of w (length w)) u ++ drop (u * length w) out → e ≡ flat (hops_of w (length w)) (length w)
-hops_done w u out e h g l p = let n = length w in rows_done (hops_of w n) n n u (u * n) out e h g refl l p
 
 -- ---- `hop_table`
 pub table_is : (a b c : List ℕ) (d w : List (List ℕ)) (out : List ℕ) → Wired a b c (length d) → Worded (net_of a b c) d w (length d) → out ≡ flat (hops_of w (length w)) (length w)
@@ -155,10 +139,3 @@ table_is a b c d w out F W q =
     up_to_ext (hop_at (get_or w u []) u) (tie_hop G d u) n (λ t ht.
     let h : t < 32 = omega (arith, F.few) in
     rw (← column_at t u w, W.is t h) (hop_is G n u (column t d) F.few F.a_in F.b_in hu t))))
-
-module _ (a b c : List ℕ) (d w : List (List ℕ)) (n m : ℕ) (G : Net) (W : Worded G d w n) where
-  pub words_few : Wired a b c n → length w ≤ 32
-  words_few F = rw W.long F.few
-
-  pub words_square : m ≡ n * n → m ≡ length w * length w
-  words_square e = rw W.long e

@@ -24,11 +24,6 @@ fill_more f d e i v q h l ev =
     ∙ sym (append_snoc (up_to f i) v (drop (suc i) d))
     ∙ rw (ev, add-one)
 
-pub fill_done : (f : ℕ → ℕ) (d e : List ℕ) (i n : ℕ) → e ≡ up_to f i ++ drop i d → n ≤ i → i ≤ length d → length d ≡ n → e ≡ up_to f n
-fill_done f d e i n q h g m =
-    let w : i ≡ length d = omega arith in
-    q ∙ rw (w, drop-length, m) (append-nil (up_to f n))
-
 -- ---- row by row: rows of n from `at` on, k of them done
 
 pub at_more : (k n at : ℕ) → at ≡ k * n → at + n ≡ (k + 1) * n
@@ -69,12 +64,6 @@ start_none f n d = rw zero-mul refl
 
 pub start_fits : (k n : ℕ) → k < n → n ≤ 32 → Fits w64 (k * n)
 start_fits k n h few = let less : k ≤ 32 = omega arith in let q : k * n ≤ 32 * 32 = mul-le-mul less few in record { fits = omega arith }
-
-pub stop_fits : (k n : ℕ) → k < n → n ≤ 32 → Fits w64 (k * n + n)
-stop_fits k n h few = let less : k ≤ 32 = omega arith in let q : k * n ≤ 32 * 32 = mul-le-mul less few in record { fits = omega arith }
-
-pub start_room : (k n s m : ℕ) → k < n → s ≡ m → m ≡ n * n → k * n + n ≤ s
-start_room k n s m h es f = rw es (at_room k n n (k * n) m h refl f)
 
 pub start_more : (f : ℕ → List ℕ) (n k : ℕ) (d e y : List ℕ) → ((j : ℕ) → length (f j) ≡ n) → e ≡ flat f k ++ drop (k * n) d → y ≡ f k
     → take (k * n) e ++ (y ++ drop (k * n + n - k * n) (drop (k * n) e)) ≡ flat f (k + 1) ++ drop ((k + 1) * n) d

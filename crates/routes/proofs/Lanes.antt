@@ -11,8 +11,6 @@ use lib.Dec.{eqb}
 use lib.ListN.{length, get_or, set, replicate, length-set, length-map, length-replicate, get_or-replicate, get_or-map}
 use lib.Seq.{get_or-set_same, get_or-set_other}
 use borrow.Author.Tests.{eqb-true, eqb-false}
-use mir.Syntax.{w32}
-use mir.Val.{Fits}
 use Rattle.rules.specs.Distance.{far}
 use Rattle.rules.proofs.Ground.Rows.{past}
 use Rattle.routes.specs.Lanes.{lane, lanes, LowRow, unit_row, column, entry, LowRows}
@@ -37,9 +35,6 @@ lanes_none c q p = refl
 pub lanes_more : (c t new : ℕ) (q p e : List ℕ) → e ≡ lanes c q t p → new ≡ min (get_or e t 0) (c + get_or q t 0) → set e t new ≡ lanes c q (t + 1) p
 unfolding lanes lane
 lanes_more c t new q p e is en = rw (en, is, add-one)
-
-pub sum_fits : (c t : ℕ) (q : List ℕ) → LowRow q → t < 32 → c ≤ far → Fits w32 (c + get_or q t 0)
-sum_fits c t q L g h = record { fits = omega (arith, L.low t g) }
 
 pub sum_low : (c t : ℕ) (q : List ℕ) → LowRow q → t < 32 → c < far → c + get_or q t 0 < 2147483648
 sum_low c t q L g h = omega (arith, L.low t g)

@@ -1,4 +1,4 @@
-use Rattle.alternates.proofs.Neighbours.{word_done, word_far, word_more, word_none, word_same}
+use Rattle.alternates.proofs.Neighbours.{word_far, word_more, word_none, word_same}
 use Rattle.alternates.proofs.Outlets.nearest.Goals as goal
 use Rattle.alternates.proofs.Outlets.nearest.Goals.{then-stands_in+then-row-v, else-stands_in, else-stands_in-via-then-stands_in+else-row-v, else-stands_in-via-else-stands_in}
 
@@ -11,6 +11,3 @@ loop-w-preserved c =
       | then-stands_in+then-row-v w ↦ search word_more
       | else-stands_in w ↦ elim w.else-stands_in.branch [ else-stands_in-via-then-stands_in+else-row-v z ↦ search word_far | else-stands_in-via-else-stands_in z ↦ search word_same ]
     ]
-
-pub returns : goal.returns
-returns c = search word_done

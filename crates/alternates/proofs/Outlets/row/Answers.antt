@@ -1,5 +1,5 @@
 use borrow.Author.Rules.{rules}
-use Rattle.alternates.proofs.Neighbours.{row_done, row_more, row_none}
+use Rattle.alternates.proofs.Neighbours.{row_more, row_none}
 use Rattle.alternates.proofs.Outlets.row.Goals as goal
 
 pub loop-v-init : goal.loop-v-init
@@ -7,6 +7,3 @@ loop-v-init c = (search rules, search row_none)
 
 pub loop-v-preserved : goal.loop-v-preserved
 loop-v-preserved c = (search rules, search row_more)
-
-pub returns : goal.returns
-returns c = search row_done
