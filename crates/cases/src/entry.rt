@@ -1,6 +1,6 @@
 // The entries: one small function for each, over the file as the case has it. They are the library's own, as C calls them; their answers
 // are read from the words that C gets. But for the report, which the program `coverage` writes.
-ghost use Rattle.std.specs.Prelude.{◌≡◌};
+ghost use Rattle.std.specs.Prelude.{◌≡◌, length};
 ghost use Rattle.rules.specs.Limits.{need_counts};
 
 use crate::sweep;
@@ -10,32 +10,56 @@ use burnishpeg::{
 };
 use layout::{header, home_topology, row_weight};
 use listing::lists_into;
-use phrases::answer::{Counts, Journey, Refusal, Stand, length};
-use phrases::show;
+use phrases::answer::Refusal;
+use phrases::{answer, show};
 use recordrules::counts;
-use rules::Network;
+use rules::{Journey, Network};
 use std::io;
 use std::io::Write;
 use wording::Length;
 use wording::asked::{Entry, FILE, LIST, Lists, TABLES, Tables, Trip, WEIGHTS};
 
-// What stands in a lent list before, and in lent bytes.
-const ENTRY: u8 = 7;
-
-const WEIGHT: u16 = 7;
-
+// What stands in lent bytes before.
 const BYTE: u8 = 238;
+
+// Lists that are long enough for every file.
+#[derive(Clone, Copy)]
+struct Lent {
+    a: [u8; LIST],
+    b: [u8; LIST],
+    weights: [u16; WEIGHTS],
+    homes: [u8; LIST],
+    rows: [u16; WEIGHTS],
+}
+
+impl Lent {
+    // Each entry is 7 before.
+    fn new() -> Lent
+        ensures { (256 ≡ length result.a) × (256 ≡ length result.b) × (8192 ≡ length result.weights) × (256 ≡ length result.homes) × (8192 ≡ length result.rows) }
+    {
+        Lent {
+            a: [7; LIST],
+            b: [7; LIST],
+            weights: [7; WEIGHTS],
+            homes: [7; LIST],
+            rows: [7; WEIGHTS],
+        }
+    }
+}
 
 // ---- take FILE
 
-// Read into lists that are long enough for every file, which are not shown.
-fn take(file: &[u8]) -> Result<Counts, Refusal> {
-    let mut a = [ENTRY; LIST];
-    let mut b = [ENTRY; LIST];
-    let mut weights = [WEIGHT; WEIGHTS];
-    let mut homes = [ENTRY; LIST];
-    let mut rows = [WEIGHT; WEIGHTS];
-    Counts::try_from(burnishpeg_read(file, &mut a, &mut b, &mut weights, &mut homes, &mut rows))
+// Read into lists which are not shown.
+fn take(file: &[u8]) -> Result<Network, Refusal> {
+    let mut to = Lent::new();
+    answer::network(burnishpeg_read(
+        file,
+        &mut to.a,
+        &mut to.b,
+        &mut to.weights,
+        &mut to.homes,
+        &mut to.rows,
+    ))
 }
 
 // ---- report FILE
@@ -49,18 +73,14 @@ fn report<W: Write>(out: &mut W, file: &[u8]) -> io::Result<()> {
 // ---- read FILE A B WEIGHTS HOMES ROWS
 
 fn read<W: Write>(out: &mut W, lists: Lists, file: &[u8]) -> io::Result<()> {
-    let mut a = [ENTRY; LIST];
-    let mut b = [ENTRY; LIST];
-    let mut weights = [WEIGHT; WEIGHTS];
-    let mut homes = [ENTRY; LIST];
-    let mut rows = [WEIGHT; WEIGHTS];
-    let a = &mut a[..lists.a.entries];
-    let b = &mut b[..lists.b.entries];
-    let weights = &mut weights[..lists.weights.entries];
-    let homes = &mut homes[..lists.homes.entries];
-    let rows = &mut rows[..lists.rows.entries];
+    let mut to = Lent::new();
+    let a = &mut to.a[..lists.a.entries];
+    let b = &mut to.b[..lists.b.entries];
+    let weights = &mut to.weights[..lists.weights.entries];
+    let homes = &mut to.homes[..lists.homes.entries];
+    let rows = &mut to.rows[..lists.rows.entries];
     let word = burnishpeg_read(file, a, b, weights, homes, rows);
-    show::counts(out, Counts::try_from(word))?;
+    show::counts(out, answer::network(word))?;
     show::list(out, "ends a", a)?;
     show::list(out, "ends b", b)?;
     show::list(out, "weights", weights)?;
@@ -95,7 +115,7 @@ fn rows<W: Write>(out: &mut W, set: &[u8], net: Network) -> io::Result<()> {
 
 // The set at the front of a lent file: its homes and its rows; whether it is taken in; the byte that follows. Or the refusal.
 fn built<W: Write>(out: &mut W, word: u64, lent: &[u8]) -> io::Result<()> {
-    let long = match length(word) {
+    let long = match answer::length(word) {
         Ok(long) => long,
         Err(refusal) => return show::refused(out, refusal, lent),
     };
@@ -126,24 +146,29 @@ fn write_lists<W: Write>(
 ) -> io::Result<()>
     requires { need_counts net 0 ≡ 0 }
 {
-    let mut a = [ENTRY; LIST];
-    let mut b = [ENTRY; LIST];
-    let mut weights = [WEIGHT; WEIGHTS];
-    let mut homes = [ENTRY; LIST];
-    let mut rows = [WEIGHT; WEIGHTS];
+    let mut from = Lent::new();
     lists_into(
         file,
         net,
-        &mut a,
-        &mut b,
-        &mut weights,
-        &mut homes,
-        &mut rows,
+        &mut from.a,
+        &mut from.b,
+        &mut from.weights,
+        &mut from.homes,
+        &mut from.rows,
     );
     let mut set = [BYTE; FILE];
     let lent = &mut set[..room.entries];
     let word = burnishpeg_write(
-        net.n, net.m, net.k, net.wmax, &a, &b, &weights, &homes, &rows, lent,
+        net.n,
+        net.m,
+        net.k,
+        net.wmax,
+        &from.a,
+        &from.b,
+        &from.weights,
+        &from.homes,
+        &from.rows,
+        lent,
     );
     built(out, word, lent)
 }
@@ -160,8 +185,8 @@ fn write<W: Write>(out: &mut W, room: Length<FILE>, file: &[u8]) -> io::Result<(
 // ---- tables FILE ROOM, reported FILE ROOM
 
 // So many bytes, and the one after them; or the refusal.
-fn written<W: Write>(out: &mut W, answer: Result<usize, Refusal>, lent: &[u8]) -> io::Result<()> {
-    match answer {
+fn written<W: Write>(out: &mut W, long: Result<usize, Refusal>, lent: &[u8]) -> io::Result<()> {
+    match long {
         Ok(long) => {
             show::bytes(out, long)?;
             show::byte(out, "the byte after it", lent, long)
@@ -173,9 +198,9 @@ fn written<W: Write>(out: &mut W, answer: Result<usize, Refusal>, lent: &[u8]) -
 fn tables<W: Write>(out: &mut W, room: Length<TABLES>, set: &[u8]) -> io::Result<()> {
     let mut tables = [BYTE; TABLES];
     let lent = &mut tables[..room.entries];
-    let answer = length(burnishpeg_tables(set, lent));
-    written(out, answer, lent)?;
-    match answer {
+    let long = answer::length(burnishpeg_tables(set, lent));
+    written(out, long, lent)?;
+    match long {
         Ok(long) => show::list(out, "tables", lent.get(..long).unwrap_or(lent)),
         Err(_) => Ok(()),
     }
@@ -184,8 +209,8 @@ fn tables<W: Write>(out: &mut W, room: Length<TABLES>, set: &[u8]) -> io::Result
 fn reported<W: Write>(out: &mut W, room: Length<TABLES>, set: &[u8]) -> io::Result<()> {
     let mut text = [BYTE; TABLES];
     let lent = &mut text[..room.entries];
-    let answer = length(burnishpeg_report(set, lent));
-    written(out, answer, lent)
+    let long = answer::length(burnishpeg_report(set, lent));
+    written(out, long, lent)
 }
 
 // ---- run FILE SOURCE DESTINATION FAILURE, and then TABLES TRAIL or nothing
@@ -198,7 +223,7 @@ pub fn ended(
     trail: &mut [u8],
 ) -> Result<Journey, Refusal> {
     let (kind, failed) = trip.down.numbers();
-    Journey::try_from(burnishpeg_run(set, trip.from, trip.to, kind, failed, tables, trail))
+    answer::journey(burnishpeg_run(set, trip.from, trip.to, kind, failed, tables, trail))
 }
 
 // A length that is not told, or longer than the room, is the whole room's.
@@ -216,9 +241,9 @@ fn run<W: Write>(
     set: &[u8],
 ) -> io::Result<()> {
     let mut a = [0; TABLES];
-    let mut b = [ENTRY; LIST];
-    let answer = ended(set, trip, part(&mut a, tables), part(&mut b, trail));
-    show::ended(out, answer, &b)
+    let mut b = [0; LIST];
+    let run = ended(set, trip, part(&mut a, tables), part(&mut b, trail));
+    show::ended(out, run, &b)
 }
 
 // ---- step FILE PLACE DESTINATION FAILURE TOPOLOGY TABLES ENTRY: by lent tables of so many bytes, each the same entry
@@ -238,7 +263,7 @@ fn step<W: Write>(
     let tables = &tables[..lent.room.entries];
     let (kind, failed) = trip.down.numbers();
     let word = burnishpeg_step(set, tables, trip.from, trip.to, topology, kind, failed);
-    show::stepped(out, Stand::try_from(word))
+    show::stepped(out, answer::step(word))
 }
 
 // ---- all of them

@@ -1,8 +1,10 @@
 // What is written after a case's name.
-use crate::answer::{Counts, Journey, Outcome, Refusal, Stand};
+use crate::answer::Refusal;
+use rules::{Journey, Kind, Network, Outcome, Step};
 use std::fmt::Display;
 use std::io;
 use std::io::Write;
+use text::letter;
 
 pub fn unclear<W: Write>(out: &mut W) -> io::Result<()> {
     writeln!(
@@ -11,14 +13,14 @@ pub fn unclear<W: Write>(out: &mut W) -> io::Result<()> {
     )
 }
 
-pub fn verdict<W: Write>(out: &mut W, read: Result<Counts, Refusal>) -> io::Result<()> {
+pub fn verdict<W: Write>(out: &mut W, read: Result<Network, Refusal>) -> io::Result<()> {
     match read {
         Ok(_) => writeln!(out, ": taken"),
         Err(refusal) => writeln!(out, ": {refusal}"),
     }
 }
 
-pub fn counts<W: Write>(out: &mut W, read: Result<Counts, Refusal>) -> io::Result<()> {
+pub fn counts<W: Write>(out: &mut W, read: Result<Network, Refusal>) -> io::Result<()> {
     match read {
         Ok(net) => writeln!(out, ": {} {} {} {}", net.n, net.m, net.k, net.wmax),
         Err(refusal) => writeln!(out, ": {refusal}"),
@@ -59,14 +61,24 @@ pub fn list<W: Write, T: Display>(out: &mut W, title: &str, list: &[T]) -> io::R
 
 // ---- runs and steps
 
+fn outcome(o: Outcome) -> &'static str {
+    match o {
+        Outcome::UnderWay => "under way",
+        Outcome::Delivered => "delivered",
+        Outcome::Dropped => "dropped",
+    }
+}
+
 // The nodes visited are one more than the hops.
 pub fn ended<W: Write>(out: &mut W, run: Result<Journey, Refusal>, trail: &[u8]) -> io::Result<()> {
     match run {
         Ok(j) => {
+            let outcome = outcome(j.outcome);
+            let letter = char::from(letter(j.kind));
             write!(
                 out,
-                " {} hops {} topology {} kind {} trail",
-                j.outcome, j.hops, j.topology, j.kind
+                " {outcome} hops {} topology {} kind {letter} trail",
+                j.hops, j.topology
             )?;
             numbers(out, trail.get(..=usize::from(j.hops)).unwrap_or(trail))
         }
@@ -74,20 +86,17 @@ pub fn ended<W: Write>(out: &mut W, run: Result<Journey, Refusal>, trail: &[u8])
     }
 }
 
-// A packet that is under way after a step has moved.
-pub fn stepped<W: Write>(out: &mut W, step: Result<Stand, Refusal>) -> io::Result<()> {
-    match step {
-        Ok(p) => {
-            match p.outcome {
-                Outcome::UnderWay => write!(out, " moved")?,
-                outcome => write!(out, " {outcome}")?,
-            }
-            writeln!(
-                out,
-                " at {} topology {} kind {}",
-                p.place, p.topology, p.kind
-            )
-        }
-        Err(refusal) => writeln!(out, " refused {refusal}"),
-    }
+pub fn stepped<W: Write>(out: &mut W, step: Result<Step, Refusal>) -> io::Result<()> {
+    let (way, packet, kind) = match step {
+        Ok(Step::Moved(packet, kind)) => ("moved", packet, kind),
+        Ok(Step::Delivered(packet)) => ("delivered", packet, Kind::Unchanged),
+        Ok(Step::Dropped(packet)) => ("dropped", packet, Kind::Unchanged),
+        Err(refusal) => return writeln!(out, " refused {refusal}"),
+    };
+    let letter = char::from(letter(kind));
+    writeln!(
+        out,
+        " {way} at {} topology {} kind {letter}",
+        packet.place, packet.topology
+    )
 }

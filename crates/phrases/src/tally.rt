@@ -1,5 +1,6 @@
 // What a sweep counts: how each run must end, and the tally.
-use crate::answer::{Journey, Outcome, Refusal};
+use crate::answer::Refusal;
+use rules::{Journey, Outcome};
 use std::io::Write;
 use std::{fmt, io};
 use wording::asked::{Down, Trip};

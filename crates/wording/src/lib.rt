@@ -1,18 +1,21 @@
 // What a case is written in: its words and numbers, what it asks, and the changes that it makes to its file. Nothing here knows the
 // network: the program `cases` does. Every function can be asked anything: what is not understood is None. So none promises more than
-// that it is safe and ends, but that a length is less than its room's.
+// that it is safe and ends, but for the lengths of letters and of a room's part.
 #![tactic(auto)]
 
 pub mod asked; // asked.rt: what a case asks
 pub mod change; // change.rt: the changes that a case makes to its file
 
-ghost use Rattle.std.specs.Prelude.{◌<◌, length};
+ghost use Rattle.std.specs.Prelude.{◌<◌, ◌≤◌, length, IfSome};
 ghost use Rattle.std.specs.Iterator.{at_most};
 
 // ---- letters and numbers
 
 // The letters that a word is told by: its last eight, and of these none of the zero bytes in front. No word that is looked for has more.
-pub fn letters(word: &[u8]) -> &[u8] {
+// Rules out: nine letters `nine_letters`; all of a longer word.
+pub fn letters(word: &[u8]) -> &[u8]
+    ensures { length result.now ≤ 8 }
+{
     let last = &word[word.len().saturating_sub(8)..];
     let zeros = last.iter().take_while(|letter| **letter == 0).count();
     last.get(zeros..).unwrap_or(&[])
@@ -84,7 +87,10 @@ impl<'a> Words<'a> {
     }
 
     // The next word as a length in a room of N entries.
-    pub fn length<const N: usize>(&mut self) -> Option<Length<N>> {
+    // Rules out: N itself `the_length_of_the_whole_room`; a number above N.
+    pub fn length<const N: usize>(&mut self) -> Option<Length<N>>
+        ensures { IfSome result (λ long. long.entries < N) }
+    {
         let entries = usize::from(self.number()?);
         if entries < N {
             Some(Length { entries })
