@@ -18,7 +18,7 @@ use Rattle.rules.specs.Report.{digits, decimal, signed, space}
 use Rattle.rules.proofs.Forwarding.ChangeKinds.{letter_none, letter_t, letter_s, letter_d}
 use Rattle.rules.proofs.Report.TextLength.{digits_one, digits_more}
 use Rattle.slices.specs.Stores.{put}
-use Rattle.slices.proofs.Stores.{put_then, put_laid}
+use Rattle.slices.proofs.Stores.{length_put, put_then, put_laid}
 use Rattle.text.specs.declared.Pen.{Pen}
 use Rattle.text.specs.Text.{Wrote, field, number_room, signed_room, field_room, label_room, labelled_room}
 use Rattle.text.specs.Pen.{Writes}
@@ -89,36 +89,40 @@ digits_none : (x : ℕ) → digits 0 x ≡ (48 + x % 10) ∷ []
 unfolding digits
 digits_none x = refl
 
+-- one byte
+wrote_byte : (old new : List ℕ) (at d : ℕ) → new ≡ put old at (d ∷ []) → Wrote old at (d ∷ []) 1 (at + 1) new
+wrote_byte old new at d e = record { is = e; on = refl; few = omega arith; long = ap length e ∙ length_put old at (d ∷ []) }
+
+wrote_few : (old new bytes : List ℕ) (at r a b : ℕ) → a ≤ b → Wrote old at bytes a r new → Wrote old at bytes b r new
+wrote_few old new bytes at r a b h w = record { is = w.is; on = w.on; few = omega (arith, w.few); long = w.long }
+
 -- one digit is all: no more are asked for, or the number has no more
-pub one_digit : (old p new : Pen) (more x : ℕ) → p ≡ old → x < 10 → Writes p ((48 + x % 10) ∷ []) 1 new → Writes old (digits more x) (more + 1) new
-one_digit old p new more x e h w =
-    let low : x % 10 ≡ x = omega arith in
-    writes_as old new (more + 1) ((48 + x % 10) ∷ []) (digits more x) (ap (λ (y : ℕ). (48 + y) ∷ []) low ∙ sym (digits_one more x h))
-    (writes_few old new 1 (more + 1) ((48 + x % 10) ∷ []) (omega arith) (subst (λ (q : Pen). Writes q ((48 + x % 10) ∷ []) 1 new) e w))
+pub last_digit : (old new : List ℕ) (at more x : ℕ) → more ≡ 0 → new ≡ put old at ((48 + x % 10) ∷ []) → Wrote old at (digits more x) (more + 1) (at + 1) new
+last_digit old new at more x z e =
+    wrote_as old new at (at + 1) (more + 1) ((48 + x % 10) ∷ []) (digits more x) (sym (ap (λ (m : ℕ). digits m x) z ∙ digits_none x))
+    (wrote_few old new ((48 + x % 10) ∷ []) at (at + 1) 1 (more + 1) (omega arith) (wrote_byte old new at (48 + x % 10) e))
 
-pub last_digit : (old p new : Pen) (more x : ℕ) → p ≡ old → more ≤ 0 → Writes p ((48 + x % 10) ∷ []) 1 new → Writes old (digits more x) (more + 1) new
-last_digit old p new more x e h w =
-    let z : more ≡ 0 = omega arith in
-    writes_as old new (more + 1) ((48 + x % 10) ∷ []) (digits more x) (sym (ap (λ (m : ℕ). digits m x) z ∙ digits_none x))
-    (writes_few old new 1 (more + 1) ((48 + x % 10) ∷ []) (omega arith) (subst (λ (q : Pen). Writes q ((48 + x % 10) ∷ []) 1 new) e w))
+pub one_digit : (old new : List ℕ) (at more x : ℕ) → x < 10 → new ≡ put old at ((48 + x) ∷ []) → Wrote old at (digits more x) (more + 1) (at + 1) new
+one_digit old new at more x h e =
+    wrote_as old new at (at + 1) (more + 1) ((48 + x) ∷ []) (digits more x) (sym (digits_one more x h))
+    (wrote_few old new ((48 + x) ∷ []) at (at + 1) 1 (more + 1) (omega arith) (wrote_byte old new at (48 + x) e))
 
-pub more_digits : (old p mid new : Pen) (more x : ℕ) → p ≡ mid → 0 < more → 10 ≤ x
-    → Writes old (digits (more - 1) (x / 10)) (more - 1 + 1) mid → Writes p ((48 + x % 10) ∷ []) 1 new → Writes old (digits more x) (more + 1) new
-more_digits old p mid new zero x e ne l v w = absurd (omega arith)
-more_digits old p mid new (suc more) x e ne l v w =
+pub more_digits : (old mid new : List ℕ) (at p more x : ℕ) → (more ≡ 0 → ⊥) → 10 ≤ x → Wrote old at (digits (more - 1) (x / 10)) (more - 1 + 1) p mid
+    → new ≡ put mid p ((48 + x % 10) ∷ []) → Wrote old at (digits more x) (more + 1) (p + 1) new
+more_digits old mid new at p zero x ne l v e = absurd (ne refl)
+more_digits old mid new at p (suc more) x ne l v e =
     let z : suc more - 1 ≡ more = omega arith in
-    let v' : Writes old (digits more (x / 10)) (more + 1) mid = subst (λ (m : ℕ). Writes old (digits m (x / 10)) (m + 1) mid) z v in
-    writes_as old new (suc more + 1) (digits more (x / 10) ++ ((48 + x % 10) ∷ [])) (digits (suc more) x) (sym (digits_more more x l))
-    (writes_then old mid new (more + 1) 1 (suc more + 1) (digits more (x / 10)) ((48 + x % 10) ∷ []) v' (subst (λ (q : Pen). Writes q ((48 + x % 10) ∷ []) 1 new) e w) (omega arith))
+    let v' : Wrote old at (digits more (x / 10)) (more + 1) p mid = subst (λ (m : ℕ). Wrote old at (digits m (x / 10)) (m + 1) p mid) z v in
+    wrote_as old new at (p + 1) (suc more + 1) (digits more (x / 10) ++ ((48 + x % 10) ∷ [])) (digits (suc more) x) (sym (digits_more more x l))
+    (wrote_then old mid new at p (p + 1) (more + 1) 1 (suc more + 1) (digits more (x / 10)) ((48 + x % 10) ∷ []) v' (wrote_byte mid new p (48 + x % 10) e) (omega arith))
 
-pub number_of : (old new : Pen) (x : ℕ) → Writes old (digits 19 x) number_room new → Writes old (decimal x) number_room new
+pub number_of : (old new : Pen) (x : ℕ) → new.text.ghost_name ≡ old.text.ghost_name → Wrote old.text.now old.at (digits 19 x) number_room new.at new.text.now → Writes old (decimal x) number_room new
 unfolding decimal
-number_of old new x w = w
+number_of old new x h w = record { held = h; wrote = w }
 
 pub short_number : (old new : Pen) (x : ℕ) → x < 10 → Writes old ((48 + x) ∷ []) 1 new → Writes old (decimal x) number_room new
-short_number old new x h w =
-    number_of old new x
-    (writes_as old new number_room ((48 + x) ∷ []) (digits 19 x) (sym (digits_one 19 x h)) (writes_few old new 1 number_room ((48 + x) ∷ []) (omega arith) w))
+unfolding decimal
+short_number old new x h w = writes_as old new number_room ((48 + x) ∷ []) (digits 19 x) (sym (digits_one 19 x h)) (writes_few old new 1 number_room ((48 + x) ∷ []) (omega arith) w)
 
 pub labelled_of : (old mid new : Pen) (label : List ℕ) (x : ℕ) → length label ≤ label_room → Writes old label (length label) mid → Writes mid (decimal x) number_room new
     → Writes old (label ++ decimal x) labelled_room new

@@ -6,7 +6,7 @@
 ghost use Rattle.std.specs.Prelude.{◌≡◌, [], ◌∷◌, ◌++◌, ◌+◌, ◌≤◌, ◌<◌, pos, nat_abs, length};
 ghost use Rattle.rules.specs.Forwarding.{letter};
 ghost use Rattle.rules.specs.Report.{digits, decimal, signed};
-ghost use Rattle.text.specs.Text.{number_room, signed_room, field_room, label_room, labelled_room, field};
+ghost use Rattle.text.specs.Text.{Wrote, number_room, signed_room, field_room, label_room, labelled_room, field};
 ghost use Rattle.text.specs.Pen.{Writes};
 
 use rules::Kind;
@@ -41,17 +41,6 @@ impl Pen<'_> {
         }
     }
 
-    // The digits of x: the last `more` and one before them, at most.
-    fn digits(&mut self, x: usize, more: u8)
-        requires { (self.old.at < 16777216) × (more < number_room) }
-        ensures { Writes self.old (digits more x) (more + 1) self.new }
-    {
-        if more > 0 && x >= 10 {
-            self.digits(x / 10, more - 1);
-        }
-        self.put(b'0' + (x % 10) as u8);
-    }
-
     // A number in decimal.
     // Rules out: a 0 before other digits; the digits in reverse.
     pub fn number(&mut self, x: usize)
@@ -62,7 +51,7 @@ impl Pen<'_> {
         if x < 10 {
             self.put(b'0' + x as u8);
         } else {
-            self.digits(x, 19);
+            self.at = digits(self.text, self.at, x, 19);
         }
     }
 
@@ -97,6 +86,25 @@ impl Pen<'_> {
         self.number(usize::from(x));
         self.put(b' ');
     }
+}
+
+// The digits of x from a place on: the last `more` and one before them, at most. By the text and the place, not by the pen: a pen that
+// is lent to a call that is not inlined would be kept in memory, and the report be slower by an eighth.
+fn digits(text: &mut [u8], at: usize, x: usize, more: u8) -> usize
+    requires { (at < 16777216) × (more < number_room) }
+    ensures { Wrote text.old at (digits more x) (more + 1) result text.new }
+{
+    if more == 0 {
+        store::bytes(text, at, [b'0' + (x % 10) as u8]);
+        return at + 1;
+    }
+    if x < 10 {
+        store::bytes(text, at, [b'0' + x as u8]);
+        return at + 1;
+    }
+    let last = digits(text, at, x / 10, more - 1);
+    store::bytes(text, last, [b'0' + (x % 10) as u8]);
+    last + 1
 }
 
 // A kind of change by its letter.

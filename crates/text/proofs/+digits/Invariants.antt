@@ -1,4 +1,4 @@
-use Rattle.text.proofs.Pen.+digits.Given as goal
+use Rattle.text.proofs.+digits.Given as goal
 
 abbrev pub decreases-digits : goal.decreases-digits
 decreases-digits l = l.more
