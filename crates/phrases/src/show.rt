@@ -1,6 +1,6 @@
 // What is written after a case's name.
 use crate::answer::Refusal;
-use rules::{Journey, Kind, Network, Outcome, Step};
+use rules::{Journey, Kind, Network, Step};
 use std::fmt::Display;
 use std::io;
 use std::io::Write;
@@ -61,19 +61,11 @@ pub fn list<W: Write, T: Display>(out: &mut W, title: &str, list: &[T]) -> io::R
 
 // ---- runs and steps
 
-fn outcome(o: Outcome) -> &'static str {
-    match o {
-        Outcome::UnderWay => "under way",
-        Outcome::Delivered => "delivered",
-        Outcome::Dropped => "dropped",
-    }
-}
-
 // The nodes visited are one more than the hops.
 pub fn ended<W: Write>(out: &mut W, run: Result<Journey, Refusal>, trail: &[u8]) -> io::Result<()> {
     match run {
         Ok(j) => {
-            let outcome = outcome(j.outcome);
+            let outcome = j.outcome;
             let letter = char::from(letter(j.kind));
             write!(
                 out,

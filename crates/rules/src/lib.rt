@@ -251,36 +251,36 @@ fn times(x: usize, y: usize) -> usize
 // The rule that refuses: 01's refusal numbers, in their order.
 #[derive(Clone, Copy, PartialEq, Eq)]
 pub enum Rule {
-    // 1: under 8 bytes, or a length that the counts do not give; a list too short for what is to be written.
-    Length,
-    // 2: a mark.
-    Mark,
-    // 3: n, m, k or wmax outside its range.
-    Counts,
-    // 4: a link's ends, or the order of links.
-    Ends,
-    // 5: a weight against its rule.
-    Weight,
-    // 6: a home's node or topology, or a row's topology.
-    Home,
-    // 7: a backbone that is empty or not connected.
-    Backbone,
-    // 8: an isolated node with fewer than two restricted links.
-    TwoLinks,
-    // 9: some one node without which the others are not connected.
-    CutNode,
-    // 10: first fit needs more than the cap.
-    Cap,
-    // 11: a node, destination, topology, failure or cap outside its range.
-    Range,
-    // 12: the source, or the packet's present node, is the failed node.
-    Source,
-    // 13: a graph alone where a set is needed, or a set given to the builder.
-    SetOrGraph,
-    // 14: lent room that is too short.
-    Room,
-    // 15: a table entry that the step looks up is no neighbour.
-    Lookup,
+    // Under 8 bytes, or a length that the counts do not give; a list too short for what is to be written.
+    Length = 1,
+    // A mark.
+    Mark = 2,
+    // n, m, k or wmax outside its range.
+    Counts = 3,
+    // A link's ends, or the order of links.
+    Ends = 4,
+    // A weight against its rule.
+    Weight = 5,
+    // A home's node or topology, or a row's topology.
+    Home = 6,
+    // A backbone that is empty or not connected.
+    Backbone = 7,
+    // An isolated node with fewer than two restricted links.
+    TwoLinks = 8,
+    // Some one node without which the others are not connected.
+    CutNode = 9,
+    // First fit needs more than the cap.
+    Cap = 10,
+    // A node, destination, topology, failure or cap outside its range.
+    Range = 11,
+    // The source, or the packet's present node, is the failed node.
+    Source = 12,
+    // A graph alone where a set is needed, or a set given to the builder.
+    SetOrGraph = 13,
+    // Lent room that is too short.
+    Room = 14,
+    // A table entry that the step looks up is no neighbour.
+    Lookup = 15,
 }
 
 impl Rule {
@@ -289,23 +289,7 @@ impl Rule {
     pub fn number(self) -> u8
         ensures { result ≡ number_of self }
     {
-        match self {
-            Rule::Length => 1,
-            Rule::Mark => 2,
-            Rule::Counts => 3,
-            Rule::Ends => 4,
-            Rule::Weight => 5,
-            Rule::Home => 6,
-            Rule::Backbone => 7,
-            Rule::TwoLinks => 8,
-            Rule::CutNode => 9,
-            Rule::Cap => 10,
-            Rule::Range => 11,
-            Rule::Source => 12,
-            Rule::SetOrGraph => 13,
-            Rule::Room => 14,
-            Rule::Lookup => 15,
-        }
+        self as u8
     }
 
     // The refusal by this rule at a place.
@@ -403,6 +387,17 @@ pub enum Outcome {
     UnderWay,
     Delivered,
     Dropped,
+}
+
+// As it is printed.
+impl fmt::Display for Outcome {
+    fn fmt<W: fmt::Write>(&self, f: &mut fmt::Formatter<W>) -> fmt::Result {
+        f.write_str(match self {
+            Outcome::UnderWay => "under way",
+            Outcome::Delivered => "delivered",
+            Outcome::Dropped => "dropped",
+        })
+    }
 }
 
 // A run to its end: how it ended, its hops, its last topology and the kind of its one change.

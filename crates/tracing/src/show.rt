@@ -1,5 +1,5 @@
 // The lines that are written.
-use rules::{Journey, Kind, Outcome, Packet};
+use rules::{Journey, Kind, Packet};
 use std::io::Write;
 use std::{fmt, io};
 use text::letter;
@@ -27,16 +27,8 @@ pub fn hop<W: Write>(out: &mut W, p: Packet, q: Packet, kind: Kind) -> io::Resul
     )
 }
 
-fn outcome(o: Outcome) -> &'static str {
-    match o {
-        Outcome::UnderWay => "under way",
-        Outcome::Delivered => "delivered",
-        Outcome::Dropped => "dropped",
-    }
-}
-
 pub fn end<W: Write>(out: &mut W, j: Journey, place: u8) -> io::Result<()> {
-    let outcome = outcome(j.outcome);
+    let outcome = j.outcome;
     writeln!(
         out,
         "{outcome} at {place} after {} hops in topology {}",
