@@ -20,6 +20,7 @@ pub trait Packed {
     ghost values: { Self → List ℕ };
     ghost ranges: { List ℕ };
 
+    // Rules out: n and k exchanged `n_and_k_exchanged`; place and destination exchanged; a kind by its number, which is a letter.
     fn packed(self) -> u64
         ensures { result ≡ pack ranges (values self) };
 }
