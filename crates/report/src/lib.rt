@@ -35,7 +35,7 @@ fn apart(set: &OwnTables, text: &mut [u8]) -> Result<usize, Refusal>
 {
     let mut made = room::<{ Network::LONGEST_REPORT }>();
     let long = write(set, &mut made);
-    lay_text(&made, long, text)
+    lay_text(&made[..long], text)
 }
 
 // The text, or 14. Where every report on so many nodes fits it is written straight into the lent room: to clear room for the longest
