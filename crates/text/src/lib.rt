@@ -18,7 +18,7 @@ pub fn put(text: &mut [u8], at: usize, x: u8) -> usize
     requires { at < 4294967296 }
     ensures { Wrote text.old at (x ∷ []) 1 result text.new }
 {
-    store::bytes(text, at, [x]);
+    store::byte(text, at, x);
     at + 1
 }
 

@@ -29,7 +29,7 @@ fn first_kind(kind: Kind, next: Kind) -> Kind
 fn visit(trail: &mut [u8], hops: u8, v: u8)
     ensures { trail.new ≡ put trail.old hops (v ∷ []) }
 {
-    store::bytes(trail, hops as usize, [v]);
+    store::byte(trail, hops as usize, v);
 }
 
 fn one_more(hops: u8, most: u8) -> u8
