@@ -68,7 +68,7 @@ pub number_bytes : (w : ℕ) → w < 2 ^ 16 → bytes2 w ≡ to_be_bytes w16 w
 unfolding bytes2
 number_bytes w h = ap (λ (x : ℕ). x ∷ w % 256 ∷ []) (omega arith)
 
-pub ruleset bytes = (put_part, put_short, put_past, number_bytes)
+pub ruleset bytes = (put_inside, put_part, put_short, put_past, number_bytes)
 
 -- ---- records in turn
 

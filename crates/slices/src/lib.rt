@@ -38,11 +38,7 @@ impl Number for u32 {
 pub fn entry<T: Number>(list: &[T], i: usize) -> T
     ensures { result ≡ get_or list.now i T.nought }
 {
-    if i < list.len() {
-        list[i]
-    } else {
-        T::default()
-    }
+    list.get(i).copied().unwrap_or_default()
 }
 
 // The two bytes at a place as one number, the first the higher, where both are before the end.

@@ -1,9 +1,19 @@
 // Stores: each promises the slice with these bytes from `at` on, as far as it reaches; `copy` the slice with all of another at its front.
 #![tactic(auto, using(crate::proofs::Stores::bytes))]
 
-ghost use Rattle.std.specs.Prelude.{◌≡◌, ◌++◌, ◌+◌, ◌^◌, ◌≤◌, ◌<◌, length, drop};
+ghost use Rattle.std.specs.Prelude.{◌≡◌, [], ◌∷◌, ◌++◌, ◌+◌, ◌^◌, ◌≤◌, ◌<◌, length, drop};
 ghost use Rattle.rules.specs.File.{bytes2};
 ghost use Rattle.slices.specs.Stores.{put};
+
+// One byte. A text is written byte by byte, and here a byte takes one test alone.
+// Rules out: the byte after altered too; the last byte overwritten where the place is past the end.
+pub fn byte(bytes: &mut [u8], at: usize, x: u8)
+    ensures { bytes.new ≡ put bytes.old at (x ∷ []) }
+{
+    if at < bytes.len() {
+        bytes[at] = x;
+    }
+}
 
 // Bytes at a place where all of them are before the end.
 // Rules out: the first in every place `first_byte_stored_twice`; the byte before altered.

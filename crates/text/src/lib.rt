@@ -26,7 +26,7 @@ impl Pen<'_> {
         requires { self.old.at < 4294967296 }
         ensures { Writes self.old (x ∷ []) 1 self.new }
     {
-        store::bytes(self.text, self.at, [x]);
+        store::byte(self.text, self.at, x);
         self.at += 1;
     }
 

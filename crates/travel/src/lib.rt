@@ -26,7 +26,7 @@ fn first_kind(kind: Kind, next: Kind) -> Kind
 fn visit(trail: &mut [u8], hops: u8, v: u8)
     ensures { trail.new ≡ put trail.old hops (v ∷ []) }
 {
-    store::bytes(trail, hops as usize, [v]);
+    store::byte(trail, hops as usize, v);
 }
 
 // How a run ended, where its packet is.
