@@ -21,7 +21,7 @@ use Rattle.words.specs.Word.{either, lowest_in, only}
 use Rattle.nexthops.specs.Ties.{tie_of, mark_lane, marked, mark, mark_both, mark_link, marks, Marked, MarkSpot, Worded, hop_of, hop_at, hops_of, tie_hop, tie_table}
 use Rattle.nexthops.proofs.Lowest.{hop_is}
 
--- ---- `tie`, `or_word`
+-- ---- `tie`
 pub tie_yes : (v o bit : ℕ) → v ≡ o → bit ≡ tie_of v o bit
 unfolding tie_of
 tie_yes v o bit e = sym (if_yes (eqb v o) bit 0 (eq-eqb v o e))

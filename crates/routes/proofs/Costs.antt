@@ -25,7 +25,7 @@ module _ (weights rows : List ℕ) (m i : ℕ) (H : HoldsRow weights rows m i) w
       let w : (i - 1) * m + m - (i - 1) * m ≡ m = omega arith in
       rw w (ap (row_of weights rows m) (sym e))
 
--- ---- `cost_of`, `link_cost`, `fill_costs`
+-- ---- `cost_of`, `fill_costs`
 
 module _ (p q i w r : ℕ) where
   pub cost_isolated : p ≡ i → q ≡ i → far ≡ cost_of p q i w r
