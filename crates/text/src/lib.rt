@@ -95,15 +95,15 @@ fn digits(text: &mut [u8], at: usize, x: usize, more: u8) -> usize
     ensures { Wrote text.old at (digits more x) (more + 1) result text.new }
 {
     if more == 0 {
-        store::bytes(text, at, [b'0' + (x % 10) as u8]);
+        store::byte(text, at, b'0' + (x % 10) as u8);
         return at + 1;
     }
     if x < 10 {
-        store::bytes(text, at, [b'0' + x as u8]);
+        store::byte(text, at, b'0' + x as u8);
         return at + 1;
     }
     let last = digits(text, at, x / 10, more - 1);
-    store::bytes(text, last, [b'0' + (x % 10) as u8]);
+    store::byte(text, last, b'0' + (x % 10) as u8);
     last + 1
 }
 
