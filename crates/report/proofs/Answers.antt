@@ -161,12 +161,12 @@ module _ (s : List ℕ) where
 
 -- ---- what the program prints
 
-pub refusal_of : (old o₁ o₂ new : Pen) (number place x : ℕ) → x ≡ number → Writes old ((114 ∷ 101 ∷ 102 ∷ 117 ∷ 115 ∷ 101 ∷ 100 ∷ 32 ∷ []) ++ decimal x) labelled_room o₁
+pub refusal_of : (old o₁ o₂ new : Pen) (number place x y : ℕ) → x ≡ y → y ≡ number → Writes old ((114 ∷ 101 ∷ 102 ∷ 117 ∷ 115 ∷ 101 ∷ 100 ∷ 32 ∷ []) ++ decimal x) labelled_room o₁
     → Writes o₁ ((32 ∷ 97 ∷ 116 ∷ 32 ∷ []) ++ decimal place) labelled_room o₂ → Writes o₂ (10 ∷ []) 1 new → Writes old (refusal_line number place) refusal_room new
 unfolding refusal_line
-refusal_of old o₁ o₂ new number place x e a b c =
+refusal_of old o₁ o₂ new number place x y d e a b c =
     writes_then old o₁ new labelled_room (labelled_room + 1) refusal_room ((114 ∷ 101 ∷ 102 ∷ 117 ∷ 115 ∷ 101 ∷ 100 ∷ 32 ∷ []) ++ decimal number) (((32 ∷ 97 ∷ 116 ∷ 32 ∷ []) ++ decimal place) ++ newline)
-    (subst (λ (y : ℕ). Writes old ((114 ∷ 101 ∷ 102 ∷ 117 ∷ 115 ∷ 101 ∷ 100 ∷ 32 ∷ []) ++ decimal y) labelled_room o₁) e a)
+    (subst (λ (y : ℕ). Writes old ((114 ∷ 101 ∷ 102 ∷ 117 ∷ 115 ∷ 101 ∷ 100 ∷ 32 ∷ []) ++ decimal y) labelled_room o₁) (d ∙ e) a)
     (writes_then o₁ o₂ new labelled_room 1 (labelled_room + 1) ((32 ∷ 97 ∷ 116 ∷ 32 ∷ []) ++ decimal place) newline b c (omega arith)) (omega arith)
 
 module _ (s : List ℕ) where
