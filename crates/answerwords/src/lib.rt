@@ -18,6 +18,7 @@ use text::letter;
 // What an accepted call gives, as one word: its values one after the other, each in as many bits as its range asks.
 pub trait Packed {
     ghost values: { Self → List ℕ };
+
     ghost ranges: { List ℕ };
 
     // Rules out: n and k exchanged `n_and_k_exchanged`; place and destination exchanged; a kind by its number, which is a letter.
@@ -28,6 +29,7 @@ pub trait Packed {
 // How many bytes.
 impl Packed for usize {
     ghost values = { λ bytes. bytes ∷ [] };
+
     ghost ranges = { by_length };
 
     #[tactic(auto, using(crate::proofs::Laws::length_is))]
@@ -39,6 +41,7 @@ impl Packed for usize {
 // The header's counts.
 impl Packed for Network {
     ghost values = { header_values };
+
     ghost ranges = { by_read };
 
     #[tactic(auto, using(crate::proofs::Laws::header_is))]
@@ -73,6 +76,7 @@ fn stands(outcome: Outcome, letter: u64, p: Packet) -> u64
 // One step.
 impl Packed for Step {
     ghost values = { step_values };
+
     ghost ranges = { by_step };
 
     #[tactic(auto, using(crate::proofs::Laws::steps))]
@@ -88,6 +92,7 @@ impl Packed for Step {
 // A run.
 impl Packed for Journey {
     ghost values = { journey_values };
+
     ghost ranges = { by_run };
 
     #[tactic(auto, using(crate::proofs::Laws::journey_is))]

@@ -76,12 +76,7 @@ fn step_taken<'a>(file: &'a [u8], tables: &'a [u8], packet: Packet, failure: Fai
 // Rules out: a packet in a backup topology sent on when its hop is down, not dropped `onehop/a_second_change_allowed`; 14 for
 // short tables where the packet stands at the failed node too, which is 12 `twelve_after_fourteen`.
 #[tactic(auto, using(crate::proofs::Stepping::stepping))]
-pub fn step(
-    file: &[u8],
-    tables: &[u8],
-    packet: Packet,
-    failure: Failure,
-) -> Result<Step, Refusal>
+pub fn step(file: &[u8], tables: &[u8], packet: Packet, failure: Failure) -> Result<Step, Refusal>
     ensures { Promise step_entry (step_input file.now tables.now packet failure) tt result tt }
 {
     step_verdict(file, tables, packet, failure)?;

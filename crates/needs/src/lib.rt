@@ -101,7 +101,13 @@ pub struct Lengths {
 
 // The lists hold an entry for each link in the first three, `nodes` homes and `entries` weights of rows.
 #[tactic(auto, using(rules::proofs::Ground::Ruling::broken_first, rules::proofs::Ground::Ruling::broken_then_by), unfolding(crate::specs::Numbers::lists_rule))]
-fn each_long(rule: Rule, net: Network, lists: Lengths, nodes: usize, entries: usize) -> Result<(), Rule>
+fn each_long(
+    rule: Rule,
+    net: Network,
+    lists: Lengths,
+    nodes: usize,
+    entries: usize,
+) -> Result<(), Rule>
     ensures { broken result ≡ lists_rule (number_of rule) net lists.a lists.b lists.weights lists.homes lists.rows nodes entries }
 {
     let m = net.m as usize;
