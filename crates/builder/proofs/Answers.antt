@@ -97,7 +97,7 @@ module _ (s homes d : List ℕ) (net set : Network) (k bytes : ℕ) (en : net �
 words_are : (s nb : List ℕ) (net : Network) → judge s ≡ Accepted → net ≡ header_of s → nb ≡ neighbour_words s net.m → WordsOf (set_of s) nb
 words_are s nb net a en eb = rw (eb, en) (words_of s (accepted_few s a))
 
--- ---- unplaced_number
+-- ---- unplaced
 
 pub some_one : (nb : List ℕ) (n : ℕ) (t : Bool) → t ≡ all_spared nb n n → t ≡ false → 9 ≡ need (all_spared nb n n) 9 10
 some_one nb n t e f = need_no (all_spared nb n n) 9 10 9 (sym e ∙ f) refl

@@ -105,9 +105,6 @@ own_ready s tables net c h e =
     record { accepted = c; header = h; before = tables; made = sym e; least = nodes_least s net c h; most = nodes_most s net c h }
 
 module _ (s tables : List ℕ) (net : Network) (R : Ready s net tables) where
-  pub ready_header : net ≡ header_of s
-  ready_header = R.header
-
   pub same_net : net ≡ (set_of s).net
   same_net = R.header ∙ sym (net_held s)
 

@@ -1,4 +1,4 @@
-// Forwarding by 01, section 'Forwarding': one hop of a packet (`hop`), by the tables that are lent, as they are; and the whole run
+// Forwarding by 01, section 'Forwarding': one hop of a packet (`onehop`), by the tables that are lent, as they are; and the whole run
 // (`travel`) from a source to a destination under one failure, by the tables that it makes itself. The entries `step` and `run` take
 // every input; their promises fix the answer, every byte of the trail and every byte of the tables. A run takes in its file, 7 and 8
 // among the refusals; a step does not repeat them.

@@ -1,4 +1,4 @@
--- Each record's verdict, and the records one after the other.
+-- Each record's verdict, and what a link must come after.
 use Rattle.std.specs.Prelude.{List, ℕ, zero, suc, ◌+◌, ◌*◌}
 use Rattle.rules.specs.Verdict.{Verdict}
 use Rattle.rules.specs.File.{end_a, end_b}

@@ -1,5 +1,5 @@
 // The layout of the house file: where its records stand, which follows from the counts of its header; their fields, read at those
-// places, one by one from any bytes, or a link's together where its record is there; and the records, stored there (`record`).
+// places, one by one from any bytes, or a link's together where its record is there; the five lists of a set as one value; and the records, stored there (`record`).
 // Places, fields and records are promised by the definitions of 01's 'The file'. What a field may hold is the judgement's to say.
 #![tactic(auto, using(crate::proofs::Places::places, crate::proofs::Records::fields_there), unfolding(rules::specs::Limits::link_place, rules::specs::Limits::home_place, rules::specs::File::header_of, rules::specs::File::end_a, rules::specs::File::end_b, rules::specs::File::link_weight, rules::specs::File::home_topology, rules::specs::File::row_weight))]
 

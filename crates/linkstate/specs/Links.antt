@@ -1,16 +1,8 @@
 -- The links of a file's set and what is up under a failure: the published definitions at what the code holds.
-use Rattle.std.specs.Prelude.{◌≡◌, Bool, ◌&&◌, ◌||◌, List, ℕ, eqb}
-use Rattle.rules.specs.declared.Network.{Network}
+use Rattle.std.specs.Prelude.{Bool, ◌&&◌, ◌||◌, List, ℕ, eqb}
 use Rattle.rules.specs.declared.Failure.{Failure}
-use Rattle.rules.specs.Verdict.{Accepted}
-use Rattle.rules.specs.Judgement.{judge}
-use Rattle.rules.specs.File.{header_of, set_of, end_a, end_b}
+use Rattle.rules.specs.File.{set_of, end_a, end_b}
 use Rattle.rules.specs.Forwarding.{fault_of, up}
-
--- a file that none of refusals 1 to 6 applies to, and its header. Its links rise, so at most one joins two nodes
-pub record Judged (s : List ℕ) (net : Network) : Type 0 where
-  pub accepted : judge s ≡ Accepted
-  pub header : net ≡ header_of s
 
 -- the links of the bytes
 unfoldable pub joins_at : List ℕ → ℕ → ℕ → ℕ → Bool

@@ -1,19 +1,10 @@
--- The number behind 11 for a packet, and the verdict on lists by their lengths.
-use Rattle.std.specs.Prelude.{ℕ, ◌*◌, ltb, leb}
+-- The verdict on lists by their lengths.
+use Rattle.std.specs.Prelude.{ℕ, ◌*◌, leb}
 use Rattle.rules.specs.declared.Network.{Network}
-use Rattle.rules.specs.declared.Packet.{Packet}
-use Rattle.rules.specs.declared.Failure.{Failure}
 use Rattle.rules.specs.Verdict.{Verdict}
 use Rattle.rules.specs.Basics.{need}
 use Rattle.rules.specs.Limits.{home_records, row_weights}
-use Rattle.rules.specs.Judgement.{refuse, need_failure}
-
-unfoldable pub packet_number : Network → Packet → Failure → ℕ
-packet_number h p f =
-    need (ltb p.place h.n) 11
-    (need (ltb p.destination h.n) 11
-    (need (leb p.topology h.k) 11
-    (need_failure h f 0)))
+use Rattle.rules.specs.Judgement.{refuse}
 
 -- lists of these lengths, against an entry for each link, `nodes` homes and `entries` weights of rows
 unfoldable pub lists_rule : ℕ → Network → ℕ → ℕ → ℕ → ℕ → ℕ → ℕ → ℕ → ℕ

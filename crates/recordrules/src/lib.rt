@@ -1,5 +1,5 @@
 // The rules of each record of a file over the values of its fields. Each rule is its tests one after the other, in 01's order, and
-// promises the number of the first that fails, or 0 where none does. Here a mark, a count, an end, a weight, a home and a row's topology
+// promises the rule of the first that fails, if one does. Here a mark, a count, an end, a weight, a home and a row's topology
 // are judged, and nowhere else; which record is judged when is the judgement's.
 #![tactic(auto)]
 
@@ -12,7 +12,7 @@ ghost use Rattle.recordrules.specs.Rules.{header_rule, link_rule, home_rule, row
 use rules::{Network, Rule, need};
 
 // The counts within their limits, else 3.
-// Rules out: 0 where n is under 3 and the length fits `length_before_counts`; 33 nodes taken.
+// Rules out: no refusal where n is under 3 and the length fits `length_before_counts`; 33 nodes taken.
 #[tactic(auto, using(rules::proofs::Ground::Ruling::needing), unfolding(rules::specs::Limits::need_counts))]
 pub fn counts(net: Network) -> Result<(), Rule>
     ensures { broken result ≡ need_counts net 0 }
@@ -27,7 +27,7 @@ pub fn counts(net: Network) -> Result<(), Rule>
 }
 
 // The length that the counts give, else 1.
-// Rules out: 0 for a file that is one byte too long; 1 for the right length.
+// Rules out: no refusal for a file that is one byte too long; 1 for the right length.
 pub fn length(long: usize, wanted: usize) -> Result<(), Rule>
     ensures { broken result ≡ need (eqb long wanted) 1 0 }
 {

@@ -6,6 +6,7 @@ use Prim.Native.Nat.{ℕ, ◌+◌, ◌≤◌}
 use native.Mathlib.Nat.{zero-add}
 use native.Mathlib.Omega.{arith}
 use lib.ListN.{length, take}
+use lib.Seq.{length-take-le}
 use Rattle.rules.specs.declared.Network.{Network}
 use Rattle.rules.specs.declared.Refusal.{Refusal}
 use Rattle.rules.specs.Verdict.{Verdict, Accepted, Refused, number_of}
@@ -66,18 +67,19 @@ module _ (s : List ℕ) where
   tables_verdict : (before : List ℕ) → (take_set s ≡ Accepted → tables_length (header_of s) ≤ length before) → and_then (take_set s) (need_room (tables_length (header_of s)) before) ≡ take_set s
   tables_verdict before enough = only_taken (tables_length (header_of s)) before enough
 
-  pub made_in : (n : ℕ) (before tables : List ℕ) (answer : LengthAnswer) → Room n before → (take_set s ≡ Accepted → tables_length (header_of s) ≤ n)
+  pub made_in : (before tables : List ℕ) (answer : LengthAnswer) → (take_set s ≡ Accepted → tables_length (header_of s) ≤ length before)
       → Promise tables_entry s before answer tables → Made s answer tables
-  made_in n before tables answer room fit P = record { before = before; enough = λ c. let f = fit c in omega (arith, room.long); kept = P }
+  made_in before tables answer fit P = record { before = before; enough = fit; kept = P }
 
-  -- the longest tables are room for all
-  pub all_enough : take_set s ≡ Accepted → tables_length (header_of s) ≤ 34816
-  all_enough c =
+  -- the longest tables are room for all, and few for a small set
+  pub all_enough : (before : List ℕ) → Room 34816 before → take_set s ≡ Accepted → tables_length (header_of s) ≤ length before
+  all_enough before room c =
       let w : WithinLimits (header_of s) = rw (net_held s) at (set_accepted s c).rules.limits in
-      omega (arith, longest_tables (header_of s) w, figures.longest_tables)
+      omega (arith, room.long, longest_tables (header_of s) w, figures.longest_tables)
 
-  pub few_enough : (h : Network) (r : ℕ) → r ≡ tables_length h → h ≡ header_of s → r ≤ 4096 → take_set s ≡ Accepted → tables_length (header_of s) ≤ 4096
-  few_enough h r e d l c = subst (λ (g : Network). tables_length g ≤ 4096) d (omega arith)
+  pub few_enough : (h : Network) (r : ℕ) (before : List ℕ) → r ≡ tables_length h → h ≡ header_of s → r ≤ 4096 → Room 4096 before → take_set s ≡ Accepted
+      → tables_length (header_of s) ≤ length before
+  few_enough h r before e d l room c = subst (λ (g : Network). tables_length g ≤ length before) d (omega (arith, room.long))
 
   -- room for the longest report is enough for every file
   pub report_verdict : (old : List ℕ) → longest.report ≡ length old → and_then (take_set s) (need_room (length (report_text (set_of s))) old) ≡ take_set s
@@ -133,6 +135,9 @@ module _ (s : List ℕ) where
 
       pub apart_inside : r ≤ length own
       apart_inside = omega (arith, whole, w.on, w.long)
+
+      pub apart_counted : r ≡ length (take r own)
+      apart_counted = sym (length-take-le r own apart_inside)
 
       front : take r own ≡ report_text (set_of s)
       front =
@@ -237,4 +242,4 @@ copied_leaves bytes old l = rw (room_ok (length bytes) old l)
 -- a text that is written straight into lent room
 pub ruleset straight = (fits, copied_tells, copied_leaves, put_front)
 
-pub ruleset answers = (array_long, made_in, all_enough, few_enough, made_taken, made_own, nodes_least, nodes_most, written_whole, apart_inside, apart_copied, reported, made_refused, refusal_of, printed_of, says_report, says_refusal)
+pub ruleset answers = (array_long, made_in, all_enough, few_enough, made_taken, made_own, nodes_least, nodes_most, written_whole, apart_inside, apart_counted, apart_copied, reported, made_refused, refusal_of, printed_of, says_report, says_refusal)

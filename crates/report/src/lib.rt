@@ -3,7 +3,7 @@
 // fixes the text, byte for byte, or the refusal. `print` promises the text that the report program prints, the refusal's line too.
 #![tactic(auto)]
 
-ghost use Rattle.std.specs.Prelude.{◌≡◌, ◌≤◌};
+ghost use Rattle.std.specs.Prelude.{◌≡◌, ◌≤◌, length};
 ghost use Rattle.rules.specs.Verdict.{Accepted, number_of};
 ghost use Rattle.rules.specs.Limits.{tables_length};
 ghost use Rattle.rules.specs.File.{header_of, set_of};
@@ -74,14 +74,13 @@ fn report_by<'a>(
     }
 }
 
-// By tables in room of N bytes, which is enough for those of every set that there is with this header.
-fn by_tables_in<const N: usize>(file: &[u8], text: &mut [u8]) -> Result<usize, Refusal>
-    requires { take_set file.now ≡ Accepted → tables_length (header_of file.now) ≤ N }
+// By tables in lent room, which is enough for those of every set that there is with this header.
+fn by_tables_in(file: &[u8], room: &mut [u8], text: &mut [u8]) -> Result<usize, Refusal>
+    requires { take_set file.now ≡ Accepted → tables_length (header_of file.now) ≤ length room.old }
     ensures { Promise report_entry file.now text.old result text.new }
 {
-    let mut room = room::<N>();
-    let made = tables(file, &mut room);
-    report_by(made, file, &room, text)
+    let made = tables(file, room);
+    report_by(made, file, room, text)
 }
 
 // The report on a file's set, from the text's first byte on; or the refusal, and every byte of the text as it came. The tables are made
@@ -93,9 +92,11 @@ pub fn report(file: &[u8], text: &mut [u8]) -> Result<usize, Refusal>
 {
     let net = header(file);
     if net.tables_length() <= FEW_TABLES {
-        return by_tables_in::<FEW_TABLES>(file, text);
+        let mut few = room::<FEW_TABLES>();
+        return by_tables_in(file, &mut few, text);
     }
-    by_tables_in::<{ Network::LONGEST_TABLES }>(file, text)
+    let mut all = room::<{ Network::LONGEST_TABLES }>();
+    by_tables_in(file, &mut all, text)
 }
 
 // ---- what the report program prints

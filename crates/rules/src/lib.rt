@@ -1,6 +1,7 @@
 // The rules of document 01: the types that every entry speaks in, at the file's widths, and the limits and sizes that follow
 // from them. What the words of 01 mean stands in specs/, in 01's order. Every other crate is code that is proved equal to
-// those definitions; this one promises that its sizes are the ones that the definitions give.
+// those definitions; this one promises that its sizes are the ones that the definitions give, and that its rules have the definitions'
+// numbers and refuse where a test that is needed fails.
 #![tactic(auto)]
 
 ghost use Rattle.std.specs.Prelude.{◌≡◌, ◌*◌, ◌-◌, ◌≤◌, ◌<◌};

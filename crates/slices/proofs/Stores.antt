@@ -96,7 +96,6 @@ storing_more d e e' base f i n at c r w h fits p s q =
       long = ap length q ∙ length_put e at r ∙ w.long;
     }
 
-pub ruleset storing = (storing_none, storing_done)
 
 -- where there is room, what is stored is laid at the front
 pub put_laid : (new old : List ℕ) → length new ≤ length old → put old 0 new ≡ laid new old
