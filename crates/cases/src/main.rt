@@ -32,7 +32,7 @@ ghost use Rattle.std.specs.Prelude.{◌≤◌, length, IfSome};
 
 use console::fill;
 use phrases::show;
-use rooms::{FILE_AND_ONE, room};
+use rooms::file_and_one;
 use std::fs::File;
 use std::io;
 use std::io::Write;
@@ -62,7 +62,7 @@ fn understood<R: Files>(files: &R, text: &[u8], room: &mut [u8]) -> Option<(Entr
 }
 
 fn case<R: Files, W: Write>(files: &R, out: &mut W, text: &[u8]) -> io::Result<()> {
-    let mut room = room::<FILE_AND_ONE>();
+    let mut room = file_and_one();
     match understood(files, text, &mut room) {
         Some((entry, long)) => entry::answer(out, entry, &room[..long.min(room.len())]),
         None => show::unclear(out),

@@ -2,11 +2,11 @@
 #![tactic(auto)]
 
 use console::read_full;
-use rooms::{FILE_AND_ONE, room};
+use rooms::file_and_one;
 use std::io;
 
 fn main(rt: HostRuntime) -> io::Result<()> {
-    let mut file = room::<FILE_AND_ONE>();
+    let mut file = file_and_one();
     let long = read_full(&mut rt.stdin(), &mut file)?;
     printer::show(&mut rt.stdout(), &file[..long])
 }

@@ -3,13 +3,13 @@ use console::{argument, argument_count};
 use std::env::Env;
 use std::fmt;
 
-// The arguments ask nothing that is understood. It is written as what was expected.
+// The arguments ask nothing that is understood. It is written as what was expected, a whole line in one piece.
 #[derive(Clone, Copy, Debug)]
 pub struct Unclear;
 
 impl fmt::Display for Unclear {
     fn fmt<W: fmt::Write>(&self, f: &mut fmt::Formatter<W>) -> fmt::Result {
-        write!(
+        writeln!(
             f,
             "expected: planner, or planner CAP, with CAP a number from 0 to 255; the graph's file on standard input"
         )

@@ -6,7 +6,7 @@
 mod argument; // argument.rt: the cap that is asked for
 
 use console::read_full;
-use rooms::{FILE_AND_ONE, room};
+use rooms::file_and_one;
 use rules::Network;
 use std::io;
 use std::io::Write;
@@ -38,13 +38,13 @@ fn plan<W: Write, E: Write>(
     graph: &[u8],
     cap: Option<u8>,
 ) -> io::Result<()> {
-    let mut file = room::<FILE_AND_ONE>();
+    let mut file = file_and_one();
     let cap = cap.unwrap_or_else(|| own_cap(graph));
     build_into(out, errors, graph, cap, &mut file)
 }
 
 fn read_and_plan(rt: &HostRuntime, cap: Option<u8>) -> io::Result<()> {
-    let mut graph = room::<FILE_AND_ONE>();
+    let mut graph = file_and_one();
     let long = read_full(&mut rt.stdin(), &mut graph)?;
     plan(&mut rt.stdout(), &mut rt.stderr(), &graph[..long], cap)
 }
@@ -52,6 +52,6 @@ fn read_and_plan(rt: &HostRuntime, cap: Option<u8>) -> io::Result<()> {
 fn main(rt: HostRuntime) -> io::Result<()> {
     match argument::read(&rt) {
         Ok(cap) => read_and_plan(&rt, cap),
-        Err(unclear) => writeln!(rt.stderr(), "{unclear}"),
+        Err(unclear) => write!(rt.stderr(), "{unclear}"),
     }
 }

@@ -31,7 +31,7 @@ use Rattle.rules.proofs.Entries.Report.{report_fits}
 use Rattle.rules.proofs.Report.TextLength.{report_fits as text_fits}
 use Rattle.rules.proofs.Entries.Values.{longest_tables}
 use Rattle.rules.proofs.Refusals.Needs.{room_ok, room_long}
-use Rattle.rooms.specs.Rooms.{Room}
+use Rattle.rooms.specs.Rooms.{few_tables, Room}
 use Rattle.rooms.proofs.Longest as figures
 use Rattle.anyroom.specs.Laying.{Copied}
 use Rattle.text.specs.declared.Pen.{Pen}
@@ -77,9 +77,16 @@ module _ (s : List ℕ) where
       let w : WithinLimits (header_of s) = rw (net_held s) at (set_accepted s c).rules.limits in
       omega (arith, room.long, longest_tables (header_of s) w, figures.longest_tables)
 
-  pub few_enough : (h : Network) (r : ℕ) (before : List ℕ) → r ≡ tables_length h → h ≡ header_of s → r ≤ 4096 → Room 4096 before → take_set s ≡ Accepted
+  pub few_enough : (h : Network) (r : ℕ) (before : List ℕ) → r ≡ tables_length h → h ≡ header_of s → r ≤ few_tables → Room few_tables before → take_set s ≡ Accepted
       → tables_length (header_of s) ≤ length before
   few_enough h r before e d l room c = subst (λ (g : Network). tables_length g ≤ length before) d (omega (arith, room.long))
+
+  pub made_all : (before tables : List ℕ) (answer : LengthAnswer) → Room 34816 before → Promise tables_entry s before answer tables → Made s answer tables
+  made_all before tables answer room P = made_in before tables answer (all_enough before room) P
+
+  pub made_few : (h : Network) (r : ℕ) (before tables : List ℕ) (answer : LengthAnswer) → r ≡ tables_length h → h ≡ header_of s → r ≤ few_tables → Room few_tables before
+      → Promise tables_entry s before answer tables → Made s answer tables
+  made_few h r before tables answer e d l room P = made_in before tables answer (few_enough h r before e d l room) P
 
   -- room for the longest report is enough for every file
   pub report_verdict : (old : List ℕ) → longest.report ≡ length old → and_then (take_set s) (need_room (length (report_text (set_of s))) old) ≡ take_set s
@@ -242,4 +249,4 @@ copied_leaves bytes old l = rw (room_ok (length bytes) old l)
 -- a text that is written straight into lent room
 pub ruleset straight = (fits, copied_tells, copied_leaves, put_front)
 
-pub ruleset answers = (array_long, made_in, all_enough, few_enough, made_taken, made_own, nodes_least, nodes_most, written_whole, apart_inside, apart_counted, apart_copied, reported, made_refused, refusal_of, printed_of, says_report, says_refusal)
+pub ruleset answers = (array_long, made_all, made_few, made_taken, made_own, nodes_least, nodes_most, written_whole, apart_inside, apart_counted, apart_copied, reported, made_refused, refusal_of, printed_of, says_report, says_refusal)

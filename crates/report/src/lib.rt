@@ -22,7 +22,7 @@ use layout::header;
 use lines::write;
 use linkstate::NetworkFile;
 use onehop::Routed;
-use rooms::{FEW_TABLES, room};
+use rooms::{FEW_TABLES, few_tables, room};
 use rules::{Network, Refusal};
 use tables::tables;
 use text::Pen;
@@ -74,17 +74,9 @@ fn report_by<'a>(
     }
 }
 
-// By tables in lent room, which is enough for those of every set that there is with this header.
-fn by_tables_in(file: &[u8], room: &mut [u8], text: &mut [u8]) -> Result<usize, Refusal>
-    requires { take_set file.now ≡ Accepted → tables_length (header_of file.now) ≤ length room.old }
-    ensures { Promise report_entry file.now text.old result text.new }
-{
-    let made = tables(file, room);
-    report_by(made, file, room, text)
-}
-
 // The report on a file's set, from the text's first byte on; or the refusal, and every byte of the text as it came. The tables are made
-// in room for those of a small set, where that will do, or else in room for the longest.
+// in room for those of a small set, where that will do, or else in room for the longest; and before `report_by`, so that its room for a text
+// is not yet taken while they are made.
 // Rules out: a text cut off where the room ends `a_short_room_written_into`; 14 for a large set in ample room
 // `every_set_taken_for_small`; also `lines/lower_end_only`, `detections/hops_with_nothing_down`.
 pub fn report(file: &[u8], text: &mut [u8]) -> Result<usize, Refusal>
@@ -92,11 +84,13 @@ pub fn report(file: &[u8], text: &mut [u8]) -> Result<usize, Refusal>
 {
     let net = header(file);
     if net.tables_length() <= FEW_TABLES {
-        let mut few = room::<FEW_TABLES>();
-        return by_tables_in(file, &mut few, text);
+        let mut few = few_tables();
+        let made = tables(file, &mut few);
+        return report_by(made, file, &few, text);
     }
     let mut all = room::<{ Network::LONGEST_TABLES }>();
-    by_tables_in(file, &mut all, text)
+    let made = tables(file, &mut all);
+    report_by(made, file, &all, text)
 }
 
 // ---- what the report program prints

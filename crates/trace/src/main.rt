@@ -10,7 +10,7 @@ use console::read_full;
 use intake::take_set;
 use linkstate::NetworkFile;
 use onehop::{Routed, Situation};
-use rooms::{FILE_AND_ONE, room};
+use rooms::{file_and_one, room};
 use rules::{Failure, Journey, Network, Packet, Step};
 use std::io;
 use std::io::Write;
@@ -117,7 +117,7 @@ fn taken_in<W: Write>(out: &mut W, bytes: &[u8], q: Question) -> io::Result<()> 
 }
 
 fn read_and_answer(rt: &HostRuntime, q: Question) -> io::Result<()> {
-    let mut file = room::<FILE_AND_ONE>();
+    let mut file = file_and_one();
     let long = read_full(&mut rt.stdin(), &mut file)?;
     taken_in(&mut rt.stdout(), &file[..long], q)
 }
@@ -125,6 +125,6 @@ fn read_and_answer(rt: &HostRuntime, q: Question) -> io::Result<()> {
 fn main(rt: HostRuntime) -> io::Result<()> {
     match question::read(&rt) {
         Ok(q) => read_and_answer(&rt, q),
-        Err(unclear) => writeln!(rt.stderr(), "{unclear}"),
+        Err(unclear) => write!(rt.stderr(), "{unclear}"),
     }
 }

@@ -18,13 +18,13 @@ pub struct Question {
     pub destination: u8,
 }
 
-// The arguments ask nothing that is understood. It is written as what was expected.
+// The arguments ask nothing that is understood. It is written as what was expected, a whole line in one piece.
 #[derive(Clone, Copy, Debug)]
 pub struct Unclear;
 
 impl fmt::Display for Unclear {
     fn fmt<W: fmt::Write>(&self, f: &mut fmt::Formatter<W>) -> fmt::Result {
-        write!(
+        writeln!(
             f,
             "expected: trace nothing SOURCE DESTINATION, or trace link A B SOURCE DESTINATION, or trace node V SOURCE DESTINATION, with numbers from 0 to 255; the set's file on standard input"
         )

@@ -1,8 +1,8 @@
-use Rattle.report.proofs.Answers.{all_enough, few_enough}
+use Rattle.report.proofs.Answers.{made_few, made_all}
 use Rattle.report.proofs.report.Goals as goal
 
-pub by_tables_in-requires : goal.by_tables_in-requires
-by_tables_in-requires c = search few_enough
+pub report_by-requires : goal.report_by-requires
+report_by-requires c = search made_few
 
-pub by_tables_in-requires-2 : goal.by_tables_in-requires-2
-by_tables_in-requires-2 c = search all_enough
+pub report_by-requires-2 : goal.report_by-requires-2
+report_by-requires-2 c = search made_all
