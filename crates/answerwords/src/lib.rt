@@ -6,7 +6,6 @@
 
 ghost use Rattle.std.specs.Prelude.{◌≡◌, List, [], ◌∷◌, ℕ, ◌<◌};
 ghost use Rattle.rules.specs.Forwarding.{letter};
-ghost use Rattle.rules.specs.Verdict.{number_of};
 ghost use Rattle.rules.specs.Answers.{tells, header_values, outcome_value, step_values, journey_values};
 ghost use Rattle.answerwords.specs.Words.{refused_word, pack, word_of, failure_of, by_length, by_read, by_step, by_run};
 
@@ -115,11 +114,13 @@ fn outcome_of(o: Outcome) -> u64
     }
 }
 
-fn refused_word(refusal: Refusal) -> u64
-    ensures { result ≡ refused_word (number_of refusal.rule) refusal.place }
+// The word of a refusal by its number, which need not be one of the table's, and its place.
+// Rules out: a word with bit 63 clear `a_refusal_that_looks_accepted`; the number over the place's bits `the_number_over_the_place`; a
+// place of 2^32 and above that changes the number.
+pub fn refused_word(number: u8, place: usize) -> u64
+    ensures { result ≡ refused_word number place }
 {
-    let number = refusal.rule.number();
-    let low = (refusal.place % 4294967296) as u64;
+    let low = (place % 4294967296) as u64;
     9223372036854775808 + (number as u64) * 4294967296 + low
 }
 
@@ -132,7 +133,7 @@ pub fn word<T: Packed>(answer: Result<T, Refusal>) -> u64
 {
     match answer {
         Ok(given) => given.packed(),
-        Err(refusal) => refused_word(refusal),
+        Err(refusal) => refused_word(refusal.rule.number(), refusal.place),
     }
 }
 

@@ -1,15 +1,17 @@
 // What an entry needs beyond the rules of the file, each need once: a set or a graph (13), a packet, a failure and a cap within their
 // ranges (11), a source that is not the failed node (12), lists that are long enough (14, or 1 for the writer's) and room (14). Each
-// function promises the published verdict; an entry says with `?` which it asks, and when.
+// function promises the published verdict; an entry says with `?` which it asks, and when. And refusals by any number, for a caller that
+// has no rule of the table's.
 #![tactic(auto)]
 
 ghost use Rattle.std.specs.Prelude.{◌≡◌, leb};
 ghost use Rattle.rules.specs.Basics.{need};
-ghost use Rattle.rules.specs.Verdict.{number_of, broken, says};
+ghost use Rattle.rules.specs.Verdict.{says};
 ghost use Rattle.rules.specs.Judgement.{refuse, need_set, need_graph, need_failure, need_packet, need_cap, need_source};
-ghost use Rattle.needs.specs.Numbers.{lists_rule, lists_verdict};
+ghost use Rattle.needs.specs.Numbers.{lists_hold, asked, numbered};
 
 use rules::{Failure, Network, Packet, Rule, Verdict, need};
+use std::fmt;
 
 // 13: a set is needed.
 // Rules out: a graph alone accepted; 13 for a set with k = 1.
@@ -99,31 +101,57 @@ pub struct Lengths {
     pub rows: usize,
 }
 
-// The lists hold an entry for each link in the first three, `nodes` homes and `entries` weights of rows.
-#[tactic(auto, using(rules::proofs::Ground::Ruling::broken_first, rules::proofs::Ground::Ruling::broken_then_by), unfolding(crate::specs::Numbers::lists_rule))]
-fn each_long(
-    rule: Rule,
-    net: Network,
-    lists: Lengths,
-    nodes: usize,
-    entries: usize,
-) -> Result<(), Rule>
-    ensures { broken result ≡ lists_rule (number_of rule) net lists.a lists.b lists.weights lists.homes lists.rows nodes entries }
+// The lists hold an entry for each link in the first three, a home for each node and a weight for each link in each row.
+#[tactic(auto, unfolding(crate::specs::Numbers::lists_hold))]
+fn each_long(net: Network, lists: Lengths) -> bool
+    ensures { result ≡ lists_hold net lists.a lists.b lists.weights lists.homes lists.rows }
 {
     let m = net.m as usize;
-    need(m <= lists.a, rule)?;
-    need(m <= lists.b, rule)?;
-    need(m <= lists.weights, rule)?;
-    need(nodes <= lists.homes, rule)?;
-    need(entries <= lists.rows, rule)
+    m <= lists.a
+        && m <= lists.b
+        && m <= lists.weights
+        && net.home_records() <= lists.homes
+        && net.row_entries() <= lists.rows
 }
 
-// Lists of these lengths hold what the counts need, else this rule: 14 where they are lent, 1 where they are given.
-// Rules out: accepted where one list is an entry short; a refusal, where every list is exactly long enough.
-#[tactic(auto, using(crate::proofs::Laws::lists_are))]
-pub fn need_lists(rule: Rule, net: Network, lists: Lengths) -> Verdict
-    ensures { says result ≡ lists_verdict (number_of rule) net lists.a lists.b lists.weights lists.homes lists.rows }
+// Lists of these lengths hold what the counts need, or this refuses: rule 14 where they are lent, 1 where they are given; or any number.
+// `lists_said` and `lists_numbered` in proofs/ say which verdict that is.
+// Rules out: accepted where one list is an entry short `short_rows_taken`; a refusal, where every list is exactly long enough.
+#[tactic(auto, unfolding(crate::specs::Numbers::asked))]
+pub fn need_lists<R: Copy>(refusal: R, net: Network, lists: Lengths) -> Result<(), R>
+    ensures { result ≡ asked (lists_hold net lists.a lists.b lists.weights lists.homes lists.rows) refusal }
 {
-    each_long(rule, net, lists, net.home_records(), net.row_entries())?;
-    Ok(())
+    if each_long(net, lists) {
+        Ok(())
+    } else {
+        Err(refusal)
+    }
+}
+
+// ---- refusals by numbers alone
+
+// A refusal by its number, which need not be one of the table's, and its place.
+#[derive(Clone, Copy, PartialEq, Eq)]
+pub struct Numbered {
+    pub number: u8,
+    pub place: usize,
+}
+
+// As it is printed: as a refusal by a rule is.
+impl fmt::Display for Numbered {
+    fn fmt<W: fmt::Write>(&self, f: &mut fmt::Formatter<W>) -> fmt::Result {
+        write!(f, "refused {} at {}", self.number, self.place)
+    }
+}
+
+// A refusal with this number and place, or acceptance where the number is 0.
+// Rules out: a refusal with the number 0 `refused_by_0`; number and place exchanged.
+#[tactic(auto, unfolding(crate::specs::Numbers::numbered, rules::specs::Judgement::refuse))]
+pub fn refuse(number: u8, place: usize) -> Result<(), Numbered>
+    ensures { numbered result ≡ refuse number place }
+{
+    if number == 0 {
+        return Ok(());
+    }
+    Err(Numbered { number, place })
 }
