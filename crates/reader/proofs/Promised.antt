@@ -17,7 +17,7 @@ use Rattle.rules.proofs.Ground.Ruling.{says_then}
 use Rattle.rules.proofs.Entries.Answering.{tell_refused, lent_refused}
 use Rattle.rules.proofs.Refusals.Needs.{lists_long}
 use Rattle.needs.specs.Numbers.{lists_rule, lists_verdict, lists_hold, asked}
-use Rattle.needs.proofs.Laws.{lists_refused, lists_taken}
+use Rattle.needs.proofs.Laws.{asked_refused, asked_taken}
 use Rattle.listing.specs.Fields.{row_of, lists_of}
 
 module _ (s : List ℕ) (h : Network) (q : h ≡ header_of s) where
@@ -36,7 +36,7 @@ module _ (s : List ℕ) (h : Network) (q : h ≡ header_of s) where
   -- lists that are all long enough are taken
   pub lists_enough : (a b w hs rs : List ℕ) (by : Rule) (x : Unit {0}) → Ok x ≡ asked (lists_hold h (length a) (length b) (length w) (length hs) (length rs)) by
       → Accepted ≡ need_lists 14 (header_of s) (lists a b w hs rs)
-  lists_enough a b w hs rs by x e = lists_asked a b w hs rs Accepted (lists_taken h (length a) (length b) (length w) (length hs) (length rs) by x 14 e)
+  lists_enough a b w hs rs by x e = lists_asked a b w hs rs Accepted (asked_taken h (length a) (length b) (length w) (length hs) (length rs) by x 14 e)
 
 -- a list that is too short refuses
 pub lists_short : (s : List ℕ) (h : Network) (a b w hs rs : List ℕ) (by rule : Rule) (answer : ReadAnswer) → Err rule ≡ asked (lists_hold h (length a) (length b) (length w) (length hs) (length rs)) by
@@ -45,15 +45,20 @@ pub lists_short : (s : List ℕ) (h : Network) (a b w hs rs : List ℕ) (by rule
 unfolding read_entry tells
 lists_short s h a b w hs rs by rule (Ok x) e q n t d = absurd d
 lists_short s h a b w hs rs by rule (Err r) e q n t d =
-    let short = lists_refused h (length a) (length b) (length w) (length hs) (length rs) by rule r 14 e n d in
+    let short = asked_refused h (length a) (length b) (length w) (length hs) (length rs) by rule r 14 e n d in
     let said : Refused (number_of r.rule) r.place ≡ and_then (take_in s) (need_lists 14 (header_of s) (lists a b w hs rs)) =
     says_then _ _ _ t (lists_asked s h q a b w hs rs (Refused (number_of r.rule) r.place) short) in
     record { answer = tell_refused _ _ _ _ said; lent = lent_refused _ _ _ _ _ said }
 
 -- an accepted call has room
-pub read_room : (h : Network) (a b w hs rs : List ℕ) (by : Rule) (x : Unit {0}) → Ok x ≡ asked (lists_hold h (length a) (length b) (length w) (length hs) (length rs)) by
+pub read_room : (h : Network) (a b w hs rs : List ℕ) → Accepted ≡ lists_verdict 14 h (length a) (length b) (length w) (length hs) (length rs)
     → LongLists h (lists a b w hs rs)
 unfolding lists_verdict lists_rule need_lists
-read_room h a b w hs rs by x e = lists_long 13 h (lists a b w hs rs) (sym (lists_taken h (length a) (length b) (length w) (length hs) (length rs) by x 14 e))
+read_room h a b w hs rs e = lists_long 13 h (lists a b w hs rs) (sym e)
 
-pub ruleset reading = (header_told, lists_left, lists_enough, read_room)
+-- and so has one whose lists were asked for and are long enough
+pub asked_room : (h : Network) (a b w hs rs : List ℕ) (by : Rule) (x : Unit {0}) → Ok x ≡ asked (lists_hold h (length a) (length b) (length w) (length hs) (length rs)) by
+    → LongLists h (lists a b w hs rs)
+asked_room h a b w hs rs by x e = read_room h a b w hs rs (asked_taken h (length a) (length b) (length w) (length hs) (length rs) by x 14 e)
+
+pub ruleset reading = (header_told, lists_left, lists_enough, asked_room)

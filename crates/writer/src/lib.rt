@@ -20,7 +20,7 @@ use needs::{Lengths, need_lists, need_room};
 use rules::{Network, Refusal, Rule, Verdict};
 
 // What is asked before anything is laid: counts within their limits (3), lists that are long enough (1).
-#[tactic(auto, using(rules::proofs::Ground::Ruling::asking, needs::proofs::Laws::lists_are), unfolding(crate::specs::Parts::given_verdict))]
+#[tactic(auto, using(rules::proofs::Ground::Ruling::asking, needs::proofs::Laws::asked_lists), unfolding(crate::specs::Parts::given_verdict))]
 fn given(net: Network, lists: Lengths) -> Verdict
     ensures { says result ≡ given_verdict net lists.a lists.b lists.weights lists.homes lists.rows }
 {
