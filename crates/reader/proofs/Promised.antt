@@ -61,4 +61,4 @@ pub asked_room : (h : Network) (a b w hs rs : List ℕ) (by : Rule) (x : Unit {0
     → LongLists h (lists a b w hs rs)
 asked_room h a b w hs rs by x e = read_room h a b w hs rs (asked_taken h (length a) (length b) (length w) (length hs) (length rs) by x 14 e)
 
-pub ruleset reading = (header_told, lists_left, lists_enough, asked_room)
+pub ruleset reading = (header_told, lists_left, lists_asked, read_room, lists_enough, asked_room)

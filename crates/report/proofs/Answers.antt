@@ -249,4 +249,4 @@ copied_leaves bytes old l = rw (room_ok (length bytes) old l)
 -- a text that is written straight into lent room
 pub ruleset straight = (fits, copied_tells, copied_leaves, put_front)
 
-pub ruleset answers = (array_long, made_all, made_few, made_taken, made_own, nodes_least, nodes_most, written_whole, apart_inside, apart_counted, apart_copied, reported, made_refused, refusal_of, printed_of, says_report, says_refusal)
+pub ruleset answers = (array_long, made_in, all_enough, few_enough, made_all, made_few, made_taken, made_own, nodes_least, nodes_most, written_whole, apart_inside, apart_counted, apart_copied, reported, made_refused, refusal_of, printed_of, says_report, says_refusal)
